@@ -1,0 +1,19 @@
+-- Demand 3, proved of the steps: `Found.found`. The other modules lead up to it.
+pub mod Flips
+pub mod Fits
+pub mod Judged
+pub mod Xors
+pub mod Blank
+pub mod Labels
+pub mod Rounds
+pub mod Kept
+pub mod Moves
+pub mod Outcome
+pub mod NoCorrection
+pub mod Trees
+pub mod Meets
+pub mod Walks
+pub mod Unwinding
+pub mod Clusters
+pub mod Corrections
+pub mod Found

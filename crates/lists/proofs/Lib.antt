@@ -1,0 +1,4 @@
+pub mod Truth
+pub mod Sums
+pub mod Members
+pub mod Counts
