@@ -13,7 +13,8 @@ use Rattle.steps.specs.Growth.{State, Growth, stuck, settled, short, firstStuck
 use Rattle.steps.specs.Peeling.{peeled}
 use Rattle.steps.specs.Shot.{Decoded, impossible, corrected, answer, decode, rowLeft}
 use Rattle.steps.specs.Marker.{fit}
-use Rattle.steps.specs.Found.{Known, Explains, Whole, Found, Stuck, Hands, Statement}
+use Rattle.steps.specs.Call.{AcceptedGraph}
+use Rattle.steps.specs.Found.{Known, Explains, Whole, Found, Stuck, Hands, Demand3, bySteps}
 use Rattle.found.proofs.Fits.{fit-known, fitting}
 use Rattle.found.proofs.Judged.{explained, judges, refuses}
 use Rattle.found.proofs.Xors.{xors}
@@ -79,35 +80,36 @@ module _ (g : Graph) (lit : List Bool) where
     corrects : (n : ℕ) (l : List ℕ) → decode g lit ≡ corrected n l → (fit g l ≡ true) × Explains g lit l
     corrects n l e = rw (ended n l e .list) (correct g ok lit (after g lit n .saturated) (after g lit n .label) (still n (quiet n l e)) z)
 
-    wholly : (n : ℕ) (l : List ℕ) → decode g lit ≡ corrected n l → Whole g lit l
+    wholly : (n : ℕ) (l : List ℕ) → decode g lit ≡ corrected n l → Whole bySteps g lit l
     unfolding rowLeft
     wholly n l e =
         let (f, ex) = corrects n l e in
         record {
           fits = f;
+          short = few-edges;
           explains = ex;
           row = λ was b. rw e (row-left g l was b);
           past = λ was. rw e (row-past g l was);
           marked = explained g lit l f ex;
         }
 
-    never : Stuck g lit → (es : List ℕ) → Known g es → Explains g lit es → ⊥
+    never : Stuck bySteps g lit → (es : List ℕ) → Known g es → Explains g lit es → ⊥
     never (n, d, e) = no-correction g ok lit n d (first n d e)
 
-    untouched : Stuck g lit → (was : List ℕ) → rowLeft g was (decode g lit) ≡ was
+    untouched : Stuck bySteps g lit → (was : List ℕ) → rowLeft g was (decode g lit) ≡ was
     unfolding rowLeft
     untouched (n, d, e) was = rw e
 
-    either : (r : Decoded) → decode g lit ≡ r → Stuck g lit ⊎ Hands g lit
+    either : (r : Decoded) → decode g lit ≡ r → Stuck bySteps g lit ⊎ Hands bySteps g lit
     either (impossible n d) e = inl (n, d, e)
     either (corrected n l) e = inr (n, l, e)
 
     -- what has no correction is stuck
-    no-way : Stuck g lit ⊎ Hands g lit → ((es : List ℕ) → fit g es ≡ true → Explains g lit es → ⊥) → Stuck g lit
+    no-way : Stuck bySteps g lit ⊎ Hands bySteps g lit → ((es : List ℕ) → fit g es ≡ true → Explains g lit es → ⊥) → Stuck bySteps g lit
     no-way (inl s) h = s
     no-way (inr (n, l, e)) h = let (f, ex) = corrects n l e in absurd (h l f ex)
 
-    founds : Found g lit
+    founds : Found bySteps g lit
     founds = record {
       exactly = (λ s es f ex. never s es (fit-known g es f) ex, no-way (either (decode g lit) refl));
       never = never;
@@ -120,9 +122,13 @@ module _ (g : Graph) (lit : List Bool) where
       refused = refuses g lit;
       rounds = λ n l e. (ended n l e .settled .rounds, quiet n l e);
       rounds-stuck = λ n d e. (stopped n d e .rounds, first n d e);
-      total = never-short g lit ok;
       named = λ n d e. names g ok lit n d (first n d e);
     }
 
-pub found : Statement
-found g ok lit z = founds g lit ok z
+-- of every graph whose ends are in order: no limit and no fact about a weight is used
+pub found-of-ends : (g : Graph) → Ends g → (lit : List Bool) → length lit ≡ g .detectors → Found bySteps g lit
+found-of-ends g ok lit z = founds g lit ok z
+
+-- of every accepted graph
+pub found : Demand3 bySteps
+found g a lit z = found-of-ends g (accepted-ends g a) lit z

@@ -13,7 +13,7 @@ use Rattle.lists.specs.Lists.{from, below, member}
 use Rattle.steps.specs.Graph.{Graph, flipped}
 use Rattle.steps.specs.Rows.{rowOf}
 use Rattle.steps.specs.Marker.{pass, differs, unfit, fit, firstWrong, verdict, mark}
-use Rattle.steps.specs.Found.{Explains, Judged}
+use Rattle.steps.specs.Found.{Explains, Judged, bySteps}
 use Rattle.lists.proofs.Truth.{case-of, clash, or-cases, or-intro, same-eqb, xor-is, xor-self}
 use Rattle.lists.proofs.Members.{member-below, below-member}
 
@@ -90,7 +90,7 @@ module _ (g : Graph) (lit : List Bool) (es : List ℕ) where
     unfolding verdict
     explained k = marked ∙ rw (none-wrong (below (g .detectors)) (λ d m. k d (member-below d (g .detectors) m)))
 
-    pub judges : Judged g lit es
+    pub judges : Judged bySteps g lit es
     judges = record {
       exactly = (
         λ r d l. wrong-none (below (g .detectors)) (no-wrong wrong (r .0) (sym marked ∙ r .1) .0) d (below-member d (g .detectors) l),

@@ -8,4 +8,3 @@ pub mod Marker
 pub mod Call
 pub mod Found
 pub mod Cases
-pub mod Clause
