@@ -41,11 +41,13 @@ pub enum Checked {
 }
 
 pub const MAX_DETECTORS: usize = 4096;
+
 pub const MAX_OBSERVABLES: usize = 128;
 // of a model, before and after decomposition; of edges too, since each comes from a mechanism
 pub const MAX_MECHANISMS: usize = 16384;
 // of a list of detectors or of observables, and of a mechanism's suggested components
 pub const MAX_ENTRIES: usize = 16;
+
 pub const MAX_SHOTS: usize = 16777216;
 
 // The number that the marking sheet has for the case.
@@ -63,7 +65,10 @@ pub fn code(r: Refusal) -> u8
         Refusal::Length => 8,
         Refusal::Padding { shot: _ } => 9,
         Refusal::Width => 10,
-        Refusal::Stuck { shot: _, detector: _ } => 11,
+        Refusal::Stuck {
+            shot: _,
+            detector: _,
+        } => 11,
         Refusal::Shape => 12,
         Refusal::Edge => 13,
     }

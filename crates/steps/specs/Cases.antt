@@ -11,7 +11,7 @@ use Rattle.codes.specs.declared.Refusal.the-variants.{Probability, Index}
 use Rattle.codes.specs.declared.Checked.the-variants.{Accepted, Refused}
 use Rattle.bits.specs.Rows.{bitsOf}
 use Rattle.steps.specs.Graph.{Graph, boundary, edges}
-use Rattle.steps.specs.Growth.{count, leastOf, start}
+use Rattle.steps.specs.Growth.{count, leastOf, start, after}
 use Rattle.steps.specs.Shot.{decode, impossible, corrected, rowLeft}
 use Rattle.steps.specs.Marker.{mark, pass, differs, unfit}
 use Rattle.steps.specs.Call.{graphOf, litOf, checkEdges, listLeft, rowMarked}
@@ -40,6 +40,10 @@ w0 = fin false 0 (pos 0)
 
 abbrev pub w1 : Float
 w1 = fin false 1 (pos 0)
+
+-- two edges of weight 0 and the one between their far ends
+abbrev pub triangle : Graph
+triangle = pairs 3 (0 ∷ 1 ∷ 0 ∷ []) (1 ∷ 2 ∷ 2 ∷ []) (w0 ∷ w0 ∷ w1 ∷ [])
 
 -- ---- document 01: "Proved cases on this model"
 
@@ -89,6 +93,8 @@ pub record Readings : Type 0 where
   pub unwound-by-marks : decode (pairs 3 (0 ∷ 0 ∷ []) (1 ∷ 2 ∷ []) (w0 ∷ w0 ∷ [])) (false ∷ true ∷ true ∷ []) ≡ corrected 1 (1 ∷ 0 ∷ [])
   -- the walk marks a vertex when it is first met: a recursive walk would give 2 and 0
   pub walk-by-stack : decode (pairs 3 (0 ∷ 0 ∷ 1 ∷ []) (2 ∷ 1 ∷ 2 ∷ []) (w0 ∷ w0 ∷ w0 ∷ [])) (true ∷ true ∷ false ∷ []) ≡ corrected 1 (1 ∷ [])
+  -- an edge with both ends in one active cluster counts 2, as one between two does
+  pub one-cluster-twice : count triangle (true ∷ true ∷ true ∷ []) (after triangle (true ∷ true ∷ true ∷ []) 1) 2 ≡ 2
   -- Stuck names the first stuck cluster in the active order, which is not the lowest component that is odd
   pub stuck-in-order : decode (pairs 3 (0 ∷ []) (2 ∷ []) (w1 ∷ [])) (true ∷ true ∷ false ∷ []) ≡ impossible 0 1
 
@@ -150,11 +156,11 @@ pub record Cases : Type 0 where
   pub slices : Slices
 
 pub cases : Cases
-unfolding count start leastOf decode mark rowLeft graphOf checkEdges listLeft rowMarked bitsOf both-edges pair-only heavy endless ln3 Ieee.ofBits Ieee.lt Ieee.div Ieee.sub Ieee.ofInt Ieee.le Ieee.mul Ieee.eq
+unfolding count start after leastOf decode mark rowLeft graphOf checkEdges listLeft rowMarked bitsOf both-edges pair-only heavy endless ln3 Ieee.ofBits Ieee.lt Ieee.div Ieee.sub Ieee.ofInt Ieee.le Ieee.mul Ieee.eq
 cases = record {
-  decoder = record { dark = refl; dark-row = refl; d0 = refl; d0-row = refl; d1 = refl; d1-row = refl; d01 = refl; d01-twice = refl; d01-row = refl; pair-d1 = refl; pair-d1-row = refl; pair-d01 = refl; pair-d01-row = refl; };
-  marker = record { whole = refl; part = refl; none = refl; unknown = refl; repeated = refl; };
-  readings = record { place-by-round = refl; place-not-first-lit = refl; place-not-lowest = refl; unwound-by-marks = refl; walk-by-stack = refl; stuck-in-order = refl; };
-  added-clause = record { forced = refl; infinite = refl; };
-  slices = record { read = refl; lit-d1 = refl; passes = refl; no-detector = refl; no-pair = refl; past-o = refl; weight-nan = refl; weight-1025 = refl; weight-1024 = refl; weight-inf = refl; weight-minus-zero = refl; by-edge = refl; five-first = refl; list-left = refl; list-stuck = refl; row-xored = refl; row-marked = refl; row-differs = refl; };
+  decoder = record { dark = refl; dark-row = refl; d0 = refl; d0-row = refl; d1 = refl; d1-row = refl; d01 = refl; d01-twice = refl; d01-row = refl; pair-d1 = refl; pair-d1-row = refl; pair-d01 = refl; pair-d01-row = refl };
+  marker = record { whole = refl; part = refl; none = refl; unknown = refl; repeated = refl };
+  readings = record { place-by-round = refl; place-not-first-lit = refl; place-not-lowest = refl; unwound-by-marks = refl; walk-by-stack = refl; one-cluster-twice = refl; stuck-in-order = refl };
+  added-clause = record { forced = refl; infinite = refl };
+  slices = record { read = refl; lit-d1 = refl; passes = refl; no-detector = refl; no-pair = refl; past-o = refl; weight-nan = refl; weight-1025 = refl; weight-1024 = refl; weight-inf = refl; weight-minus-zero = refl; by-edge = refl; five-first = refl; list-left = refl; list-stuck = refl; row-xored = refl; row-marked = refl; row-differs = refl };
 }

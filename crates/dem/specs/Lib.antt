@@ -1,0 +1,5 @@
+pub mod Model
+pub mod Tables
+pub mod Cover
+pub mod Decompose
+pub mod Cases

@@ -1,0 +1,1 @@
+// Detector error models.
