@@ -2,7 +2,7 @@
 use Prim.Native.Nat.{ℕ}
 use mathlib.Core.Path.{_≡_}
 use mathlib.Core.List.{List}
-use lib.ListN.{length, take, drop}
+use lib.ListN.{take, drop}
 use Rattle.bits.specs.Rows.{words}
 use Rattle.bits.proofs.Rows.{into-zero, past-it}
 use Rattle.steps.specs.Graph.{Graph}

@@ -35,6 +35,27 @@ pub record Peeling (g : Graph) (lit sat : List Bool) (ls : List ℕ) (done : Lis
   pub dark : (d : ℕ) → d < g .detectors → member (name ls d) done ≡ true → getD (p .lit) d false ≡ false
   pub calm : (d : ℕ) → d < g .detectors → member (name ls d) done ≡ false → getD (p .lit) d false ≡ getD lit d false
 
+-- the saturated boundary edges of the cluster a
+module _ (g : Graph) (lit sat : List Bool) (ls : List ℕ) (a : ℕ) where
+  pub exit-is : (e : ℕ) → exits g lit sat ls a e ≡ true → (getD sat e false ≡ true) × (isPair g e ≡ false) × (name ls (inner g e) ≡ a)
+  exit-is e t =
+      let u = and-right (getD sat e false) (not (isPair g e) && eqb (name ls (inner g e)) a) t in (
+        and-left (getD sat e false) (not (isPair g e) && eqb (name ls (inner g e)) a) t,
+        not-true (isPair g e) (and-left (not (isPair g e)) (eqb (name ls (inner g e)) a) u),
+        eqb-true (name ls (inner g e)) a (and-right (not (isPair g e)) (eqb (name ls (inner g e)) a) u),
+      )
+
+  in-exits : (e : ℕ) → member e (exitsOf g sat ls a) ≡ (exits g lit sat ls a e && member e (edges g))
+  unfolding exitsOf
+  in-exits e = member-filter (exits g lit sat ls a) e (edges g)
+
+  pub exit-first : (e : ℕ) (es : List ℕ) → exitsOf g sat ls a ≡ e ∷ es → (e < length (g .edge-u)) × (getD sat e false ≡ true) × (isPair g e ≡ false) × (name ls (inner g e) ≡ a)
+  unfolding member
+  exit-first e es z =
+      let u : (exits g lit sat ls a e && member e (edges g)) ≡ true = sym (in-exits e) ∙ rw (z, same-eqb e) in
+      let (s, f, n) = exit-is e (and-left (exits g lit sat ls a e) (member e (edges g)) u) in
+      (member-below e (length (g .edge-u)) (and-right (exits g lit sat ls a e) (member e (edges g)) u), s, f, n)
+
 module _ (g : Graph) (ok : Ends g) (lit sat : List Bool) (ls : List ℕ) (st : Still g lit sat ls)
     (done : List ℕ) (p : Peeled) (k : Peeling g lit sat ls done p) (a : ℕ) (out : member a done ≡ false) where
   module _ (v : ℕ) (vl : v < g .detectors) (va : name ls v ≡ a) where
@@ -165,33 +186,19 @@ module _ (g : Graph) (ok : Ends g) (lit sat : List Bool) (ls : List ℕ) (st : S
 
   -- ---- the two ways
 
-  exit-is : (e : ℕ) → exits g lit sat ls a e ≡ true → (getD sat e false ≡ true) × (isPair g e ≡ false) × (name ls (inner g e) ≡ a)
-  exit-is e t =
-      let u = and-right (getD sat e false) (not (isPair g e) && eqb (name ls (inner g e)) a) t in (
-        and-left (getD sat e false) (not (isPair g e) && eqb (name ls (inner g e)) a) t,
-        not-true (isPair g e) (and-left (not (isPair g e)) (eqb (name ls (inner g e)) a) u),
-        eqb-true (name ls (inner g e)) a (and-right (not (isPair g e)) (eqb (name ls (inner g e)) a) u),
-      )
-
-  in-exits : (e : ℕ) → member e (exitsOf g sat ls a) ≡ (exits g lit sat ls a e && member e (edges g))
-  unfolding exitsOf
-  in-exits e = member-filter (exits g lit sat ls a) e (edges g)
-
   -- without an exit the cluster is even
   no-exit : exitsOf g sat ls a ≡ [] → isOdd g lit ls a ≡ false
   unfolding member
   no-exit z = not-so (isOdd g lit ls a) (λ o. clash (live-of g ok lit sat ls a o (not-so (any (exits g lit sat ls a) (edges g)) (λ t.
       let (e, m, x) = any-some (exits g lit sat ls a) (edges g) t in
-      let y : member e (exitsOf g sat ls a) ≡ true = in-exits e ∙ rw (x, m) in
+      let y : member e (exitsOf g sat ls a) ≡ true = in-exits g lit sat ls a e ∙ rw (x, m) in
       clash (rw z at y) refl))) (st .quiet a))
 
   ways : a < g .detectors → name ls a ≡ a → (l : List ℕ) → exitsOf g sat ls a ≡ l → Peeling g lit sat ls (a ∷ done) (peelBy g sat ls p a l)
-  unfolding peelBy leave member
+  unfolding peelBy leave
   ways al aa [] z = closed a al aa (start-parity a al aa ∙ no-exit z)
   ways al aa (e ∷ es) z =
-      let u : (exits g lit sat ls a e && member e (edges g)) ≡ true = sym (in-exits e) ∙ rw (z, same-eqb e) in
-      let h = member-below e (length (g .edge-u)) (and-right (exits g lit sat ls a e) (member e (edges g)) u) in
-      let (s, f, n) = exit-is e (and-left (exits g lit sat ls a e) (member e (edges g)) u) in
+      let (h, s, f, n) = exit-first g lit sat ls a e es z in
       let v = inner g e in
       let i = ok .inside e h in
       let q = unwind g sat p (branchesFrom g sat v) in

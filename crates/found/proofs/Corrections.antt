@@ -3,51 +3,26 @@ use Prim.Native.Nat.{ℕ, _<_}
 use native.Mathlib.Omega.{arith}
 use mathlib.Core.Path.{_≡_, refl, sym, _∙_}
 use mathlib.Core.List.{List, [], _∷_, map}
-use mathlib.Core.Bool.{Bool, true, false, not, and-false}
+use mathlib.Core.Bool.{Bool, true, false}
 use mathlib.Core.Logic.{⊎-elim}
 use lib.Dec.{eqb}
 use lib.ListN.{length, getD}
-use borrow.Author.Tests.{eqb-true, ne-eqb}
-use Rattle.lists.specs.Lists.{below, filter, firsts, odd, member}
+use borrow.Author.Tests.{ne-eqb}
+use Rattle.lists.specs.Lists.{below, filter, odd, member}
 use Rattle.steps.specs.Graph.{Graph, Ends, flipped}
 use Rattle.steps.specs.Peeling.{Peeled, peel, peelAll, clusters, peeled}
 use Rattle.steps.specs.Marker.{fit}
 use Rattle.steps.specs.Found.{Explains}
 use Rattle.lists.proofs.Truth.{case-of, clash, and-right, or-cases, or-intro, same-eqb, not-so, xor-false, xor-is}
-use Rattle.lists.proofs.Members.{member-filter, member-firsts, member-map, member-below, below-member}
+use Rattle.lists.proofs.Members.{member-filter, member-firsts, member-map, member-unmap, member-below, below-member}
+use Rattle.lists.proofs.Singles.{Single, single-firsts}
 use Rattle.found.proofs.Labels.{name}
 use Rattle.found.proofs.Clusters.{Still, Peeling, peels}
-
--- ---- lists in which no element stands twice
-
-abbrev Distinct : List ℕ → Type 0
-Distinct [] = Unit {0}
-Distinct (a ∷ l) = (member a l ≡ false) × Distinct l
-
-distinct-filter : (p : ℕ → Bool) (l : List ℕ) → Distinct l → Distinct (filter p l)
-unfolding filter
-distinct-filter p [] t = tt
-distinct-filter p (a ∷ l) t = case-of (p a)
-    (λ u. rw u (member-filter p a l ∙ rw (t .0) (and-false (p a)), distinct-filter p l (t .1)))
-    (λ f. rw f (distinct-filter p l (t .1)))
-
-distinct-firsts : (l : List ℕ) → Distinct (firsts l)
-unfolding firsts
-distinct-firsts [] = tt
-distinct-firsts (a ∷ l) = (member-filter (λ b. not (eqb b a)) a (firsts l) ∙ rw (same-eqb a), distinct-filter (λ b. not (eqb b a)) (firsts l) (distinct-firsts l))
-
-member-unmap : (f : ℕ → ℕ) (b : ℕ) (l : List ℕ) → member b (map f l) ≡ true → (a : ℕ) × (member a l ≡ true) × (f a ≡ b)
-unfolding member
-member-unmap f b [] m = clash m refl
-member-unmap f b (a ∷ l) m = ⊎-elim
-    (λ t. (a, rw (same-eqb a), sym (eqb-true b (f a) t)))
-    (λ t. let (c, n, e) = member-unmap f b l t in (c, or-intro (eqb c a) (member c l) n, e))
-    (or-cases (eqb b (f a)) (member b (map f l)) m)
 
 module _ (g : Graph) (ok : Ends g) (lit sat : List Bool) (ls : List ℕ) (st : Still g lit sat ls) (z : length lit ≡ g .detectors) where
   -- ---- the clusters
 
-  cluster-in : (a : ℕ) → member a (clusters g sat ls lit) ≡ true → (a < g .detectors) × (name ls a ≡ a)
+  pub cluster-in : (a : ℕ) → member a (clusters g sat ls lit) ≡ true → (a < g .detectors) × (name ls a ≡ a)
   unfolding clusters
   cluster-in a m =
       let lits = filter (λ d. getD lit d false) (below (g .detectors)) in
@@ -62,9 +37,9 @@ module _ (g : Graph) (ok : Ends g) (lit sat : List Bool) (ls : List ℕ) (st : S
       member-firsts (name ls d) (map (name ls) lits)
       ∙ member-map (name ls) d lits (member-filter (λ d. getD lit d false) d (below (g .detectors)) ∙ rw (t, below-member d (g .detectors) l))
 
-  distinct-clusters : Distinct (clusters g sat ls lit)
+  pub single-clusters : Single (clusters g sat ls lit)
   unfolding clusters
-  distinct-clusters = distinct-firsts (map (name ls) (filter (λ d. getD lit d false) (below (g .detectors))))
+  single-clusters = single-firsts (map (name ls) (filter (λ d. getD lit d false) (below (g .detectors))))
 
   -- ---- all of them
 
@@ -74,7 +49,7 @@ module _ (g : Graph) (ok : Ends g) (lit sat : List Bool) (ls : List ℕ) (st : S
     old : (a : ℕ) → member a done ≡ true → member a all ≡ true
     new : (a : ℕ) → member a l ≡ true → member a all ≡ true
 
-  peel-all : (l : List ℕ) (done : List ℕ) (p : Peeled) → Peeling g lit sat ls done p → Distinct l → ((a : ℕ) → member a l ≡ true → member a done ≡ false)
+  peel-all : (l : List ℕ) (done : List ℕ) (p : Peeled) → Peeling g lit sat ls done p → Single l → ((a : ℕ) → member a l ≡ true → member a done ≡ false)
       → ((a : ℕ) → member a l ≡ true → (a < g .detectors) × (name ls a ≡ a)) → Peels done l (peelAll g sat ls p l)
   unfolding peelAll member
   peel-all [] done p k t away h = record { all = done; peeling = k; old = λ a m. m; new = λ a m. clash m refl }
@@ -101,7 +76,7 @@ module _ (g : Graph) (ok : Ends g) (lit sat : List Bool) (ls : List ℕ) (st : S
 
   ended : Peels [] (clusters g sat ls lit) (peelAll g sat ls (record { lit = lit; list = [] }) (clusters g sat ls lit))
   unfolding member
-  ended = peel-all (clusters g sat ls lit) [] (record { lit = lit; list = [] }) nothing distinct-clusters (λ a m. refl) cluster-in
+  ended = peel-all (clusters g sat ls lit) [] (record { lit = lit; list = [] }) nothing single-clusters (λ a m. refl) cluster-in
 
   pub correct : (fit g (peeled g sat ls lit) ≡ true) × Explains g lit (peeled g sat ls lit)
   unfolding peeled

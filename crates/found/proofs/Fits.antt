@@ -14,7 +14,7 @@ use Rattle.steps.specs.Graph.{Graph}
 use Rattle.steps.specs.Marker.{fit}
 use Rattle.steps.specs.Found.{Known, Distinct}
 use Rattle.lists.proofs.Truth.{clash, and-left, and-right, or-cases, or-left, or-right, or-intro, same-eqb, not-so}
-use Rattle.lists.proofs.Members.{member-append}
+use Rattle.lists.proofs.Members.{member-append, at-member}
 
 pub fit-known : (g : Graph) (es : List ℕ) → fit g es ≡ true → (e : ℕ) → member e es ≡ true → e < length (g .edge-u)
 unfolding fit member
@@ -38,12 +38,6 @@ fit-more g (a ∷ l) e f h m =
     (fit-more g l e (and-right (not (member a l)) (fit g l) r) h (or-right (eqb e a) (member e l) m))
 
 -- ---- what fit means
-
-pub at-member : (l : List ℕ) (j : ℕ) → j < length l → member (getD l j 0) l ≡ true
-unfolding member
-at-member [] j h = absurd (not-suc-le-zero h)
-at-member (a ∷ l) zero h = rw (same-eqb a)
-at-member (a ∷ l) (suc j) h = or-intro (eqb (getD l j 0) a) (member (getD l j 0) l) (at-member l j (le-of-suc-le-suc h))
 
 member-at : (a : ℕ) (l : List ℕ) → member a l ≡ true → (j : ℕ) × (j < length l) × (getD l j 0 ≡ a)
 unfolding member

@@ -13,7 +13,6 @@ use Rattle.steps.specs.Growth.{State, Growth, stuck, settled, short, firstStuck
 use Rattle.steps.specs.Peeling.{peeled}
 use Rattle.steps.specs.Shot.{Decoded, impossible, corrected, answer, decode, rowLeft}
 use Rattle.steps.specs.Marker.{fit}
-use Rattle.steps.specs.Call.{AcceptedGraph}
 use Rattle.steps.specs.Found.{Known, Explains, Whole, Found, Stuck, Hands, Demand3, bySteps}
 use Rattle.found.proofs.Fits.{fit-known, fitting}
 use Rattle.found.proofs.Judged.{explained, judges, refuses}
@@ -21,10 +20,12 @@ use Rattle.found.proofs.Xors.{xors}
 use Rattle.found.proofs.Blank.{row-left, row-past}
 use Rattle.found.proofs.Kept.{kept}
 use Rattle.found.proofs.Moves.{turn-ended, turn-held}
-use Rattle.found.proofs.Outcome.{Held, Settled, Outcome, outcome, never-short}
+use Rattle.found.proofs.Outcome.{Held, Settled, Outcome, outcome}
 use Rattle.found.proofs.NoCorrection.{no-correction, names}
 use Rattle.found.proofs.Clusters.{Still}
 use Rattle.found.proofs.Corrections.{correct}
+use Rattle.found.proofs.Few.{few-edges}
+use Rattle.found.proofs.Accepted.{accepted-ends}
 
 module _ (g : Graph) (lit : List Bool) where
   -- an impossible shot is one that growth holds
@@ -86,7 +87,7 @@ module _ (g : Graph) (lit : List Bool) where
         let (f, ex) = corrects n l e in
         record {
           fits = f;
-          short = few-edges;
+          short = rw (ended n l e .list) (few-edges g ok lit (after g lit n .saturated) (after g lit n .label) (still n (quiet n l e)) z);
           explains = ex;
           row = λ was b. rw e (row-left g l was b);
           past = λ was. rw e (row-past g l was);

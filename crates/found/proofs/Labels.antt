@@ -11,6 +11,7 @@ use borrow.Author.Tests.{eqb-true, eqb-false, leb-true, leb-false}
 use Rattle.lists.specs.Lists.{member}
 use Rattle.steps.specs.Graph.{Graph, Ends, inner, outer, isPair}
 use Rattle.steps.specs.Growth.{merge, mergeAll}
+use Rattle.steps.specs.Laws.{Linked}
 use Rattle.lists.proofs.Truth.{case-of, clash, or-cases, or-intro, same-eqb}
 use Rattle.lists.proofs.Members.{getD-any}
 
@@ -74,19 +75,11 @@ ren-const c a b x p = case-of (eqb x (max a b))
 -- ---- labels
 
 module _ (g : Graph) where
-  -- c does not tell the ends of a saturated pair edge apart
-  abbrev pub Constant : List Bool → (ℕ → Bool) → Type 0
-  Constant sat c = (e : ℕ) → e < length (g .edge-u) → getD sat e false ≡ true → isPair g e ≡ true → c (inner g e) ≡ c (outer g e)
-
-  -- a path of saturated pair edges leads from x to y: no such c tells them apart
-  abbrev pub Linked : List Bool → ℕ → ℕ → Type 0
-  Linked sat x y = (c : ℕ → Bool) → Constant sat c → c x ≡ c y
-
   pub record Labels (sat : List Bool) (ls : List ℕ) : Type 0 where
     pub sizes : length ls ≡ g .detectors
     pub low : (d : ℕ) → d < g .detectors → name ls d ≤ d
     pub root : (d : ℕ) → d < g .detectors → name ls (name ls d) ≡ name ls d
-    pub linked : (d : ℕ) → d < g .detectors → Linked sat (name ls d) d
+    pub linked : (d : ℕ) → d < g .detectors → Linked g sat (name ls d) d
 
   abbrev pub Keeps : List ℕ → List ℕ → Type 0
   Keeps ls ms = (d c : ℕ) → d < g .detectors → c < g .detectors → name ls d ≡ name ls c → name ms d ≡ name ms c

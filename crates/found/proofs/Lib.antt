@@ -1,4 +1,4 @@
--- Demand 3, proved of the steps: `Found.found`. The other modules lead up to it.
+-- Demand 3, proved of the steps: `Found.found`; and the laws of growth: `GrowthLaws.laws`. The other modules lead up to them.
 pub mod Flips
 pub mod Fits
 pub mod Judged
@@ -16,4 +16,9 @@ pub mod Walks
 pub mod Unwinding
 pub mod Clusters
 pub mod Corrections
+pub mod Few
+pub mod Accepted
 pub mod Found
+pub mod Floats
+pub mod Least
+pub mod GrowthLaws

@@ -75,7 +75,7 @@ module _ (g : Graph) (lit : List Bool) where
       pick true = h e (rw (same-eqb e))
       pick false = m
 
-  leastOf-in : (s : State) (es : List ℕ) (e : ℕ) → member e es ≡ true → member (leastOf g lit s es .edge) es ≡ true
+  pub leastOf-in : (s : State) (es : List ℕ) (e : ℕ) → member e es ≡ true → member (leastOf g lit s es .edge) es ≡ true
   unfolding leastOf member
   leastOf-in s [] e m = clash m refl
   leastOf-in s (a ∷ es) e m = least-in s (a ∷ es) (a ∷ es) (record { edge = a; step = Ieee.inf false }) (rw (same-eqb a)) (λ a k. k)

@@ -37,7 +37,8 @@ module _ (g : Graph) (lit : List Bool) where
   Each n = (k : ℕ) → k < n → Finished g lit k
 
   module _ (ok : Ends g) where
-    grows : (n : ℕ) → Below (after g lit n .saturated) (after g lit (suc n) .saturated)
+    -- a saturated edge stays saturated
+    pub grows : (n : ℕ) → Below (after g lit n .saturated) (after g lit (suc n) .saturated)
     unfolding after
     grows n i t =
         let s = after g lit n in

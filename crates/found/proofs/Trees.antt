@@ -75,11 +75,11 @@ module _ (g : Graph) (ok : Ends g) (sat : List Bool) (v : ℕ) where
         let far : ends g (c .edge) (b .vertex) ≡ false = h (b .vertex) ∙ rw (p, r) in
         clash (leads-ends (b .vertex) ∙ rw (same-eqb (b .vertex), z)) (rw e far)
 
-  within-more : (bs : List Branch) (c : Branch) (d : ℕ) → within v bs d ≡ true → within v (c ∷ bs) d ≡ true
+  pub within-more : (bs : List Branch) (c : Branch) (d : ℕ) → within v bs d ≡ true → within v (c ∷ bs) d ≡ true
   unfolding member
   within-more bs c d w = ⊎-elim (λ t. rw t) (λ t. or-intro (eqb d v) (member d (vertices (c ∷ bs))) (or-intro (eqb d (c .vertex)) (member d (vertices bs)) t)) (or-cases (eqb d v) (member d (vertices bs)) w)
 
-  within-head : (bs : List Branch) (c : Branch) → within v (c ∷ bs) (c .vertex) ≡ true
+  pub within-head : (bs : List Branch) (c : Branch) → within v (c ∷ bs) (c .vertex) ≡ true
   unfolding member
   within-head bs c = or-intro (eqb (c .vertex) v) (member (c .vertex) (vertices (c ∷ bs))) (rw (same-eqb (c .vertex)))
 

@@ -6,14 +6,14 @@ use mathlib.Core.List.{List, [], _∷_}
 use mathlib.Core.Bool.{Bool, true, false, _&&_, _||_, or-false}
 use mathlib.Core.Logic.{_⊎_, inl, inr, ⊎-elim}
 use lib.Dec.{eqb}
-use lib.ListN.{length, set, replicate, length-set, length-replicate, getD-replicate}
+use lib.ListN.{length, replicate, length-set, length-replicate, getD-replicate}
 use lib.Seq.{getD-set-same, getD-set-other}
 use borrow.Author.Tests.{eqb-true, eqb-false, ne-eqb}
 use Rattle.lists.specs.Lists.{member}
 use Rattle.steps.specs.Graph.{Graph, Ends, inner, outer, isPair}
 use Rattle.steps.specs.Peeling.{Branch, Walk, joined, meet, walk, branchesFrom}
+use Rattle.steps.specs.Laws.{Constant, Linked, Walks, begun, walkFrom}
 use Rattle.lists.proofs.Truth.{case-of, clash, or-cases, or-intro, same-eqb, iff-eq}
-use Rattle.found.proofs.Labels.{Constant, Linked}
 use Rattle.lists.proofs.Counts.{falses, falses-set, falses-replicate}
 use Rattle.found.proofs.Meets.{is, joined-in, in-joined, Closed, Walked, Pending, measure, Met, meets}
 use Rattle.found.proofs.Trees.{within, Tree}
@@ -26,13 +26,14 @@ module _ (g : Graph) (sat : List Bool) where
 
   record Finished (v : ℕ) (w : Walk) : Type 0 where
     walked : Walked g sat v w
+    none : w .stack ≡ []
     closed : (d : ℕ) → d < g .detectors → is (w .met) d ≡ true → Closed g sat (w .met) d
 
   -- nothing waits
   empty : (v : ℕ) (met : List Bool) (branches : List Branch) → Walked g sat v (record { met = met; stack = []; branches = branches })
       → Waiting (record { met = met; stack = []; branches = branches }) → Finished v (record { met = met; stack = []; branches = branches })
   unfolding Waiting member
-  empty v met branches k p = record { walked = k; closed = λ d l m. ⊎-elim (λ (x : member d [] ≡ true). clash x refl) (λ c. c) (p d l m) }
+  empty v met branches k p = record { walked = k; none = refl; closed = λ d l m. ⊎-elim (λ (x : member d [] ≡ true). clash x refl) (λ c. c) (p d l m) }
 
   module _ (ok : Ends g) (v : ℕ) where
     -- the last pushed vertex u is taken
@@ -85,7 +86,7 @@ module _ (g : Graph) (sat : List Bool) where
 
   module _ (ok : Ends g) (v : ℕ) (vl : v < g .detectors) where
     abbrev first : List Bool
-    first = set (replicate (g .detectors) false) v true
+    first = begun g v .met
 
     first-is : (d : ℕ) → d < g .detectors → is first d ≡ (eqb d v || false)
     first-is d l = case-of (eqb d v)
@@ -93,7 +94,7 @@ module _ (g : Graph) (sat : List Bool) where
         rw (t, eqb-true d v t) z)
         (λ f. rw f (getD-set-other (replicate (g .detectors) false) v d true false (eqb-false d v f) ∙ getD-replicate (g .detectors) d false false l))
 
-    first-walked : Walked g sat v (record { met = first; stack = v ∷ []; branches = [] })
+    first-walked : Walked g sat v (begun g v)
     unfolding member
     first-walked = record {
       sizes = length-set (replicate (g .detectors) false) v true ∙ length-replicate (g .detectors) false;
@@ -102,11 +103,11 @@ module _ (g : Graph) (sat : List Bool) where
       stacked = λ d m. let q = eqb-true d v (sym (or-false (eqb d v)) ∙ m) in rw q (vl, first-is v vl ∙ rw (same-eqb v));
     }
 
-    first-waiting : Waiting (record { met = first; stack = v ∷ []; branches = [] })
+    first-waiting : Waiting (begun g v)
     unfolding Waiting member
     first-waiting d l m = inl (sym (first-is d l) ∙ m)
 
-    done : Finished v (walk g sat (suc (g .detectors)) (record { met = first; stack = v ∷ []; branches = [] }))
+    done : Finished v (walkFrom g sat v)
     done = walks ok v (suc (g .detectors)) first (v ∷ []) [] first-walked first-waiting
         (omega (
           arith,
@@ -138,4 +139,8 @@ module _ (g : Graph) (sat : List Bool) where
 
     pub spanning : Spanning v (branchesFrom g sat v)
     unfolding branchesFrom
-    spanning = spans-all (walk g sat (suc (g .detectors)) (record { met = first; stack = v ∷ []; branches = [] })) done
+    spanning = spans-all (walkFrom g sat v) done
+
+    pub walked-out : Walks g sat v
+    unfolding branchesFrom
+    walked-out = record { branches = refl; empty = done .none }

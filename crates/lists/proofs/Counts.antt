@@ -69,3 +69,9 @@ pub falses-replicate : (n : ℕ) → falses (replicate n false) ≡ n
 unfolding falses
 falses-replicate zero = refl
 falses-replicate (suc n) = ap suc (falses-replicate n)
+
+-- none is true yet
+pub none-true : (n i : ℕ) → getD (replicate n false) i false ≡ false
+none-true zero i = refl
+none-true (suc n) zero = refl
+none-true (suc n) (suc i) = none-true n i

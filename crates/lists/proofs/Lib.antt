@@ -2,3 +2,4 @@ pub mod Truth
 pub mod Sums
 pub mod Members
 pub mod Counts
+pub mod Singles

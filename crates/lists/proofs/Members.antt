@@ -38,7 +38,15 @@ member-map f a (b ∷ l) h = ⊎-elim
     (λ t. or-intro (eqb (f a) (f b)) (member (f a) (map f l)) (member-map f a l t))
     (or-cases (eqb a b) (member a l) h)
 
-member-from : (d n a : ℕ) → member d (from n a) ≡ true → (a ≤ d) × (d < n + a)
+pub member-unmap : (f : ℕ → ℕ) (b : ℕ) (l : List ℕ) → member b (map f l) ≡ true → (a : ℕ) × (member a l ≡ true) × (f a ≡ b)
+unfolding member
+member-unmap f b [] m = clash m refl
+member-unmap f b (a ∷ l) m = ⊎-elim
+    (λ t. (a, rw (same-eqb a), sym (eqb-true b (f a) t)))
+    (λ t. let (c, n, e) = member-unmap f b l t in (c, or-intro (eqb c a) (member c l) n, e))
+    (or-cases (eqb b (f a)) (member b (map f l)) m)
+
+pub member-from : (d n a : ℕ) → member d (from n a) ≡ true → (a ≤ d) × (d < n + a)
 unfolding member from
 member-from d zero a h = clash h refl
 member-from d (suc n) a h = ⊎-elim {C = (a ≤ d) × (d < suc n + a)} (λ t. let e = eqb-true d a t in omega arith) (λ t. let k = member-from d n (suc a) t in omega arith) (or-cases (eqb d a) (member d (from n (suc a))) h)
@@ -60,6 +68,12 @@ pub member-append : (a : ℕ) (l m : List ℕ) → member a (l ++ m) ≡ (member
 unfolding member
 member-append a [] m = refl
 member-append a (b ∷ l) m = rw (member-append a l m) (sym (or-assoc (eqb a b) (member a l) (member a m)))
+
+pub at-member : (l : List ℕ) (j : ℕ) → j < length l → member (getD l j 0) l ≡ true
+unfolding member
+at-member [] j h = absurd (not-suc-le-zero h)
+at-member (a ∷ l) zero h = rw (same-eqb a)
+at-member (a ∷ l) (suc j) h = or-intro (eqb (getD l j 0) a) (member (getD l j 0) l) (at-member l j (le-of-suc-le-suc h))
 
 -- ---- any
 
@@ -114,3 +128,12 @@ map-same (a ∷ l) = ap {B = List ℕ} (λ r. a ∷ r) (map-same l)
 
 pub below-at : (n i z : ℕ) → i < n → getD (below n) i z ≡ i
 below-at n i z h = ap (λ (l : List ℕ). getD l i z) (sym (map-same (below n))) ∙ getD-below (λ a. a) z n i h
+
+-- the first element that passes is the lowest
+pub first-low : (p : ℕ → Bool) (n a e : ℕ) → p e ≡ true → a ≤ e → e < n + a → getD (filter p (from n a)) 0 0 ≤ e
+unfolding filter from
+first-low p zero a e t l h = absurd (omega arith)
+first-low p (suc n) a e t l h = case-of (p a) (λ u. rw u l) (λ f. rw f (first-low p n (suc a) e t (above e l f t) (omega arith)))
+  where
+    above : (e : ℕ) → a ≤ e → p a ≡ false → p e ≡ true → suc a ≤ e
+    above e l f t = case-of (eqb e a) (λ u. clash (rw (eqb-true e a u) at t) f) (λ u. omega (arith, eqb-false e a u))

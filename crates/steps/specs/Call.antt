@@ -2,14 +2,13 @@
 use Prim.Native.Nat.{ℕ, _*_}
 use mathlib.Core.Path.{_≡_}
 use mathlib.Core.List.{List, [], _∷_, _++_, map}
-use mathlib.Core.Bool.{Bool, false, not, _&&_, _||_}
+use mathlib.Core.Bool.{Bool, not, _&&_, _||_}
 use lib.ListN.{length, getD, take, drop}
 use lib.Dec.{eqb, ltb}
-use lib.IntN.{pos}
-use lib.Ieee as Ieee
-use lib.Ieee.{Float, inf, fin, nan}
+use lib.Ieee.{Float, nan}
 use Rattle.lists.specs.Lists.{below}
 use Rattle.bits.specs.Rows.{words, bitsOf, isClear}
+use Rattle.weight.specs.Weight.{weightFits}
 use Rattle.codes.specs.declared.Refusal.the-variants.{Probability, Index}
 use Rattle.codes.specs.declared.Checked.{Checked}
 use Rattle.codes.specs.declared.Checked.the-variants.{Accepted}
@@ -47,10 +46,6 @@ endsFit g e = ltb (inner g e) (g .detectors) && (not (isPair g e) || (ltb (inner
 unfoldable pub observablesFit : Graph → ℕ → Bool
 unfolding words isClear
 observablesFit g e = eqb (length (getD (g .edge-obs) e [])) (words (g .observables)) && isClear (g .observables) (getD (g .edge-obs) e [])
-
--- from 0 to 1,024, or infinity; minus zero is 0, and NaN is neither
-unfoldable pub weightFits : Float → Bool
-weightFits w = Ieee.le (fin false 0 (pos 0)) w && (Ieee.le w (fin false 1 (pos 10)) || Ieee.eq w (inf false))
 
 -- of one edge: 5, then 4
 unfoldable pub checkEdge : Graph → ℕ → Checked

@@ -18,18 +18,20 @@ use Rattle.steps.specs.Call.{graphOf, litOf, checkEdges, listLeft, rowMa
 
 -- ---- the graphs
 
--- the weight of p = 0.25
-pub ln3 : Float
+-- the weight of p = 0.25, as the stated logarithm has it
+unfoldable pub quarter-weight : Float
 unfolding Ieee.ofBits
-ln3 = Ieee.ofBits binary64 0x3ff193ea7aad030b
+quarter-weight = Ieee.ofBits binary64 0x3ff193ea7aad030a
 
 -- document 01's model: mechanism 0 flips D0 and L0, mechanism 1 flips D0 and D1
-pub both-edges : Graph
-both-edges = record { detectors = 2; observables = 1; edge-u = 0 ∷ 0 ∷ []; edge-v = boundary ∷ 1 ∷ []; edge-weight = ln3 ∷ ln3 ∷ []; edge-obs = (1 ∷ []) ∷ (0 ∷ []) ∷ [] }
+unfoldable pub both-edges : Graph
+unfolding quarter-weight
+both-edges = record { detectors = 2; observables = 1; edge-u = 0 ∷ 0 ∷ []; edge-v = boundary ∷ 1 ∷ []; edge-weight = quarter-weight ∷ quarter-weight ∷ []; edge-obs = (1 ∷ []) ∷ (0 ∷ []) ∷ [] }
 
 -- its pair edge alone
-pub pair-only : Graph
-pair-only = record { detectors = 2; observables = 1; edge-u = 0 ∷ []; edge-v = 1 ∷ []; edge-weight = ln3 ∷ []; edge-obs = (0 ∷ []) ∷ [] }
+unfoldable pub pair-only : Graph
+unfolding quarter-weight
+pair-only = record { detectors = 2; observables = 1; edge-u = 0 ∷ []; edge-v = 1 ∷ []; edge-weight = quarter-weight ∷ []; edge-obs = (0 ∷ []) ∷ [] }
 
 -- pair edges between d detectors, with no observables
 abbrev pub pairs : ℕ → List ℕ → List ℕ → List Float → Graph
@@ -101,11 +103,11 @@ pub record Readings : Type 0 where
 -- ---- the added clause of step 2, where alone it decides: on weights past 1,024, which no accepted graph has
 
 -- the two boundary edges fall short of their weight by rounding
-pub heavy : Graph
+unfoldable pub heavy : Graph
 heavy = record { detectors = 2; observables = 0; edge-u = 0 ∷ 0 ∷ 0 ∷ []; edge-v = 1 ∷ boundary ∷ boundary ∷ []; edge-weight = w1 ∷ Ieee.ofBits binary64 0x434001599a975925 ∷ Ieee.ofBits binary64 0x434001599a975925 ∷ []; edge-obs = [] ∷ [] ∷ [] ∷ [] }
 
 -- two boundary edges of infinite weight
-pub endless : Graph
+unfoldable pub endless : Graph
 endless = record { detectors = 1; observables = 0; edge-u = 0 ∷ 0 ∷ []; edge-v = boundary ∷ boundary ∷ []; edge-weight = inf false ∷ inf false ∷ []; edge-obs = [] ∷ [] ∷ [] }
 
 pub record AddedClause : Type 0 where
@@ -122,7 +124,7 @@ lent u v w obs = record { detectors = 2; observables = 1; edge-u = u; edge-v = v
 
 pub record Slices : Type 0 where
   -- the tables that give document 01's graph; what lies past the edges is not read
-  pub read : graphOf 2 1 2 (0 ∷ 0 ∷ 7 ∷ []) (boundary ∷ 1 ∷ 7 ∷ []) (ln3 ∷ ln3 ∷ []) (1 ∷ 0 ∷ 7 ∷ []) ≡ both-edges
+  pub read : graphOf 2 1 2 (0 ∷ 0 ∷ 7 ∷ []) (boundary ∷ 1 ∷ 7 ∷ []) (quarter-weight ∷ quarter-weight ∷ []) (1 ∷ 0 ∷ 7 ∷ []) ≡ both-edges
   pub lit-d1 : litOf 2 (2 ∷ []) ≡ false ∷ true ∷ []
   pub passes : checkEdges both-edges (edges both-edges) ≡ Accepted
   -- 5: an end that is no detector, a pair that does not ascend, a bit past O
@@ -156,7 +158,7 @@ pub record Cases : Type 0 where
   pub slices : Slices
 
 pub cases : Cases
-unfolding count start after leastOf decode mark rowLeft graphOf checkEdges listLeft rowMarked bitsOf both-edges pair-only heavy endless ln3 Ieee.ofBits Ieee.lt Ieee.div Ieee.sub Ieee.ofInt Ieee.le Ieee.mul Ieee.eq
+unfolding count start after leastOf decode mark rowLeft graphOf checkEdges listLeft rowMarked bitsOf both-edges pair-only heavy endless quarter-weight Ieee.ofBits Ieee.lt Ieee.div Ieee.sub Ieee.ofInt Ieee.le Ieee.mul Ieee.eq
 cases = record {
   decoder = record { dark = refl; dark-row = refl; d0 = refl; d0-row = refl; d1 = refl; d1-row = refl; d01 = refl; d01-twice = refl; d01-row = refl; pair-d1 = refl; pair-d1-row = refl; pair-d01 = refl; pair-d01-row = refl };
   marker = record { whole = refl; part = refl; none = refl; unknown = refl; repeated = refl };

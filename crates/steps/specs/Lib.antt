@@ -7,4 +7,5 @@ pub mod Shot
 pub mod Marker
 pub mod Call
 pub mod Found
+pub mod Laws
 pub mod Cases

@@ -1,0 +1,3 @@
+-- Wrong programs, and the statement that each breaks demand 3.
+pub mod Wrong
+pub mod Refuted

@@ -1,0 +1,5 @@
+pub mod Err
+pub mod Values
+pub mod Approx
+pub mod Ops
+pub mod Range

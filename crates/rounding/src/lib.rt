@@ -1,0 +1,1 @@
+// Facts on rounding, in proofs/. There is no code here.
