@@ -6,7 +6,7 @@
   tools/prove.py --templates CRATE           begin a proof and its answers where a function has neither
   tools/prove.py --check [CRATE ..]          say which proofs are not what their answers make
 
-Run it in the folder that holds crates.txt, or below it. docs/PROVE.md has the format of the answers.
+Run it in the folder that holds crates.txt, or below it. docs/DEVELOPING.md has the format of the answers.
 """
 import argparse
 import hashlib
