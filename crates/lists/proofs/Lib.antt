@@ -3,3 +3,4 @@ pub mod Sums
 pub mod Members
 pub mod Counts
 pub mod Singles
+pub mod Ranges

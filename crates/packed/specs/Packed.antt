@@ -11,6 +11,8 @@ use Rattle.codes.specs.declared.Checked.{Checked}
 use Rattle.codes.specs.declared.Checked.the-variants.{Accepted, Refused}
 use Rattle.codes.specs.Order.{refuseIf, andThen}
 use Rattle.codes.specs.Limits.{checkShots}
+use Rattle.packed.specs.declared.Packed.{Packed}
+use Rattle.packed.specs.declared.Packed.the-variants as packed
 
 -- the row of shot s in rows of m words: bit d of shot s lives at word s·m + d div 64, bit d mod 64
 abbrev pub rowAt : ℕ → List ℕ → ℕ → List ℕ
@@ -32,3 +34,13 @@ unfoldable pub checkPacked : List ℕ → ℕ → ℕ → Checked
 unfolding checkLength checkPadding below checkShots
 checkPacked rows shots width =
     andThen (checkShots shots) (andThen (checkLength rows shots width) (checkPadding width rows (below shots)))
+
+-- the words of a row where the check accepts, else its refusal
+abbrev pub packedBy : ℕ → Checked → Packed
+packedBy m Accepted = packed.Rows m
+packedBy m (Refused r) = packed.Refused r
+
+-- what a batch of packed shots is taken for
+unfoldable pub packedOf : List ℕ → ℕ → ℕ → Packed
+unfolding checkPacked words
+packedOf rows shots width = packedBy (words width) (checkPacked rows shots width)
