@@ -46,7 +46,7 @@ class Answers(NamedTuple):
 
 def read_answers(text):
     """The answers, with each `%x` in their terms replaced."""
-    lines, uses, lets, terms, macros, last = text.splitlines(), [], False, {}, {}, None
+    lines, uses, lets, terms, macros, named, last = text.splitlines(), [], False, {}, {}, {}, None
     opening = list(takewhile(lambda line: line.startswith("--"), lines))
     for line in map(str.rstrip, lines):
         if not line or line.startswith("--"):
@@ -59,27 +59,41 @@ def read_answers(text):
             last[1] += "\n" + line
         elif head := ANSWER.fullmatch(line):
             name, unfolding, term = head.groups()
-            into = macros if name.startswith("!") else terms
-            if name.lstrip("!") in into:
+            into = {"!": macros, "&": named}.get(name[0], terms)
+            if name.lstrip("!&") in into:
                 raise Problem(f"{name} is answered twice")
-            last = into[name.lstrip("!")] = [unfolding or "", term or ""]
+            last = into[name.lstrip("!&")] = [unfolding or "", term or ""]
         else:
-            raise Problem(f"neither `need: term`, nor `!name: term`, nor a `use` line: {line}")
+            raise Problem(f"neither `need: term`, nor `!name: term`, nor `&name: term`, nor a `use` line: {line}")
+    texts = {name: term for name, (_, term) in macros.items()}
+    names = {name: with_macros(term, texts, named) for name, (_, term) in named.items()}
     for answer in terms.values():
-        answer[1] = with_macros(answer[1], {name: term for name, (_, term) in macros.items()})
+        answer[1] = with_names(with_macros(answer[1], texts, named), names)
     return Answers(opening, uses, lets, terms)
 
 
-def with_macros(term, macros):
-    """The term with each `%x` replaced by what `!x:` names, also inside what it names."""
+def with_macros(term, macros, named=()):
+    """The term with each `%x` replaced by what `!x:` stands for, also inside what it stands for."""
     for _ in range(len(macros) + 1):
-        unknown = [name for name in MACRO.findall(term) if name not in macros]
+        unknown = [name for name in MACRO.findall(term) if name not in macros and name not in named]
         if unknown:
-            raise Problem(f"no line `!{unknown[0]}:`; there is: {' '.join(macros)}")
-        term = MACRO.sub(lambda mark: macros[mark.group(1)], term)
-    if MACRO.search(term):
+            raise Problem(f"no line `!{unknown[0]}:` or `&{unknown[0]}:`; there is: {' '.join([*macros, *named])}")
+        term = MACRO.sub(lambda mark: macros.get(mark.group(1), mark.group()), term)
+    if any(name not in named for name in MACRO.findall(term)):
         raise Problem(f"a `!name:` line uses itself: {MACRO.search(term).group()}")
     return term
+
+
+def with_names(term, named):
+    """The term with each `%x` that `&x:` names as x, below a `let` for it and for what it uses, in the file's order."""
+    wanted, todo = set(), [term]
+    while todo:
+        for name in MACRO.findall(todo.pop()):
+            if name not in wanted:
+                wanted.add(name)
+                todo.append(named[name])
+    lets = [f"\n    let {name} = {text} in" for name, text in named.items() if name in wanted]
+    return MACRO.sub(r"\1", "".join(lets) + ("\n    " if lets else "") + term)
 
 
 def read_places(text):
@@ -95,6 +109,17 @@ def read_places(text):
                     held.append([down, name, list(records.get(kind, {})) if kind.endswith("·own") else []])
             place, down = records[place].get("before"), down + 1
     return needs
+
+
+def named_or(mark, named, paths):
+    """The name of a `$thing` that a `let` names, or else its path."""
+    return mark.group(1) if mark.group(1) in named else paths[mark.group(1)]
+
+
+def is_argument(mark, term):
+    """Whether a `$thing` stands among other words, with no projection after it, so that its path wants parentheses."""
+    before, after = term[: mark.start()].rstrip(" "), term[mark.end() :].lstrip(" ")
+    return bool(before) and before[-1] not in "(,;=∙\n" and not after.startswith(".") and not before.endswith(" in")
 
 
 def with_paths(term, arguments, held, lets=False):
@@ -114,7 +139,8 @@ def with_paths(term, arguments, held, lets=False):
     named = [thing for thing, count in marks.items() if count > 1 and near[thing] >= LONG and thing not in words]
     if not lets and {"omega", "search"} & set(words):
         named = []
-    term = THING.sub(lambda mark: mark.group(1) if mark.group(1) in named else paths[mark.group(1)], term)
+    whole = {thing: f"({path})" for thing, path in paths.items()}  # a path that is an argument as it stands
+    term = THING.sub(lambda mark: named_or(mark, named, whole if is_argument(mark, term) else paths), term)
     return "".join(f"\n    let {thing} = {paths[thing]} in" for thing in named) + ("\n    " if named else "") + term
 
 

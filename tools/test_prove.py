@@ -93,9 +93,14 @@ class Reading(unittest.TestCase):
         answers = prove.read_answers("!x: f %y\n   more\n!y: (g a)\nn: %x %y 7 % 2\n")
         self.assertEqual(answers.terms["n"][1], "f (g a)\n   more (g a) 7 % 2")
 
+    def test_names(self):
+        answers = prove.read_answers("!y: (g a)\n&x: f %y\n&z: h %x\n&w: no\nn: k %z\nm: v\n")
+        self.assertEqual(answers.terms["n"][1], "\n    let x = f (g a) in\n    let z = h x in\n    k z")
+        self.assertEqual(answers.terms["m"][1], "v")
+
     def test_errors(self):
         for text, says in (
-            ("a: %x\n!y: z\n", "no line `!x:`; there is: y"),
+            ("a: %x\n!y: z\n", "no line `!x:` or `&x:`; there is: y"),
             ("!x: f %x\na: %x\n", "uses itself: %x"),
             ("a: x\na: y\n", "a is answered twice"),
             ("nonsense\n", "neither `need: term`.*: nonsense"),
@@ -121,7 +126,7 @@ class Places(unittest.TestCase):
             ("g ($loop .inv .0)", "g (c .before .before .loop .inv .0)"),
             ("$find^kept2", "c .find .kept .1 .1 .0"),
             ("$find^last0 x", "c .find .last .0 x"),
-            ("f $loop-test $find $find", "f c .before .loop-test c .find c .find"),
+            ("f $loop-test $find $find", "f (c .before .loop-test) (c .find) (c .find)"),
         ):
             self.assertEqual(prove.with_paths(term, " c", held), path)
 
@@ -132,8 +137,8 @@ class Places(unittest.TestCase):
         self.assertEqual(prove.with_paths("f ($loop .i) ($loop .inv)", " c", held), let + "f (loop .i) (loop .inv)")
         self.assertEqual(prove.with_paths("omega (a, $loop .i, $loop .j)", " c", held), f"omega (a, {path} .i, {path} .j)")
         self.assertEqual(prove.with_paths("omega ($loop, $loop)", " c", held, lets=True), let + "omega (loop, loop)")
-        self.assertEqual(prove.with_paths("loop $loop $loop", " c", held), f"loop {path} {path}")
-        self.assertEqual(prove.with_paths("$loop $loop", " c loop", held), f"{path} {path}")
+        self.assertEqual(prove.with_paths("loop $loop $loop", " c", held), f"loop ({path}) ({path})")
+        self.assertEqual(prove.with_paths("$loop $loop", " c loop", held), f"{path} ({path})")
 
     def test_missing(self):
         with self.assertRaisesRegex(prove.Problem, r"`c` has no \$find; it has: loop args pre"):
