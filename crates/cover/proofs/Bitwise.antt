@@ -1,0 +1,133 @@
+-- Masks within masks, bit by bit.
+use Prim.Native.Nat.{ℕ, zero, suc, _/_, _%_, _^_, _<_}
+use native.Mathlib.Nat.{zero-div, div-one}
+use native.Mathlib.Numerals.{one-add}
+use native.Mathlib.Omega.{arith}
+use mathlib.Core.Path.{_≡_, refl, sym, ap, _∙_}
+use mathlib.Core.Bool.{Bool, true, false, _&&_, not, xor}
+use lib.Arith.{bin-ind}
+use lib.Dec.{eqb}
+use lib.Bits.{bitAnd, bitXor, and-shr, and-mod}
+use lib.Pow.{shr-shr}
+use borrow.Author.Tests.{eqb-true, eqb-false, eq-eqb, ne-eqb, not-true}
+use Rattle.bits.specs.Rows.{testBit}
+use Rattle.bits.proofs.Word.{test-xor}
+use Rattle.lists.proofs.Truth.{case-of, clash, and-left, and-right, not-so, xor-assoc, xor-comm}
+use Rattle.cover.specs.Masks.{fits}
+
+-- ---- the bits of a number
+
+low-and : (p q : ℕ) → p < 2 → q < 2 → eqb (bitAnd p q) 1 ≡ (eqb p 1 && eqb q 1)
+low-and zero zero h k = refl
+low-and zero (suc zero) h k = refl
+low-and (suc zero) zero h k = refl
+low-and (suc zero) (suc zero) h k = refl
+low-and zero (suc (suc q)) h k = absurd (omega arith)
+low-and (suc zero) (suc (suc q)) h k = absurd (omega arith)
+low-and (suc (suc p)) q h k = absurd (omega arith)
+
+test-and : (x y k : ℕ) → testBit (bitAnd x y) k ≡ (testBit x k && testBit y k)
+unfolding testBit
+test-and x y k =
+    let u = x / 2 ^ k in
+    let v = y / 2 ^ k in
+    ap (λ (t : ℕ). eqb (t % 2) 1) (and-shr x y k) ∙ ap (λ (t : ℕ). eqb t 1) (and-mod u v 1) ∙ low-and (u % 2) (v % 2) (omega arith) (omega arith)
+
+test-zero : (w : ℕ) → testBit w zero ≡ eqb (w % 2) 1
+unfolding testBit
+test-zero w = ap (λ (x : ℕ). eqb (x % 2) 1) (div-one w)
+
+test-suc : (w j : ℕ) → testBit w (suc j) ≡ testBit (w / 2) j
+unfolding testBit
+test-suc w j = ap (λ (k : ℕ). eqb (w / 2 ^ k % 2) 1) (sym (one-add j)) ∙ ap (λ (x : ℕ). eqb (x % 2) 1) (sym (shr-shr w 1 j))
+
+test-none : (j : ℕ) → testBit 0 j ≡ false
+unfolding testBit
+test-none j = ap (λ (x : ℕ). eqb (x % 2) 1) (zero-div (2 ^ j))
+
+same-low : (a b : ℕ) → eqb (a % 2) 1 ≡ eqb (b % 2) 1 → a % 2 ≡ b % 2
+same-low a b e = case-of (eqb (a % 2) 1)
+    (λ t. eqb-true (a % 2) 1 t ∙ sym (eqb-true (b % 2) 1 (sym e ∙ t)))
+    (λ f. let p = eqb-false (a % 2) 1 f in let q = eqb-false (b % 2) 1 (sym e ∙ f) in omega arith)
+
+none-zero : (b : ℕ) → ((j : ℕ) → testBit b j ≡ false) → b ≡ zero
+none-zero = bin-ind (λ (b : ℕ). ((j : ℕ) → testBit b j ≡ false) → b ≡ zero) (λ h. refl)
+    (λ n ih h. let e = ih (λ j. sym (test-suc n j) ∙ h (suc j)) in let f = same-low n 0 (sym (test-zero n) ∙ h zero) in omega arith)
+
+test-ext : (a b : ℕ) → ((j : ℕ) → testBit a j ≡ testBit b j) → a ≡ b
+test-ext = bin-ind (λ (a : ℕ). (b : ℕ) → ((j : ℕ) → testBit a j ≡ testBit b j) → a ≡ b)
+    (λ b h. sym (none-zero b (λ j. sym (h j) ∙ test-none j)))
+    (λ n ih b h.
+    let e = ih (b / 2) (λ j. sym (test-suc n j) ∙ h (suc j) ∙ test-suc b j) in
+    let f = same-low n b (sym (test-zero n) ∙ h zero ∙ test-zero b) in
+    omega arith)
+
+-- taken off in either order
+pub xor-turn : (m c d : ℕ) → bitXor (bitXor m c) d ≡ bitXor (bitXor m d) c
+xor-turn m c d = test-ext (bitXor (bitXor m c) d) (bitXor (bitXor m d) c) (λ j.
+    test-xor (bitXor m c) d j ∙ ap (λ (x : Bool). xor x (testBit d j)) (test-xor m c j)
+    ∙ xor-assoc (testBit m j) (testBit c j) (testBit d j) ∙ ap (xor (testBit m j)) (xor-comm (testBit c j) (testBit d j))
+    ∙ sym (test-xor (bitXor m d) c j ∙ ap (λ (x : Bool). xor x (testBit c j)) (test-xor m d j) ∙ xor-assoc (testBit m j) (testBit d j) (testBit c j)))
+
+-- ---- what fits
+
+fits-bits : (m c : ℕ) → fits m c ≡ true → (c ≡ 0 → ⊥) × ((j : ℕ) → testBit c j ≡ true → testBit m j ≡ true)
+unfolding fits
+fits-bits m c e =
+    let a = not (eqb c 0) in
+    let b = eqb (bitAnd m c) c in
+    let q = eqb-true (bitAnd m c) c (and-right a b e) in
+    (eqb-false c 0 (not-true (eqb c 0) (and-left a b e)), λ j t. and-left (testBit m j) (testBit c j) (sym (test-and m c j) ∙ ap (λ (x : ℕ). testBit x j) q ∙ t))
+
+bits-fit : (m c : ℕ) → (c ≡ 0 → ⊥) → ((j : ℕ) → testBit c j ≡ true → testBit m j ≡ true) → fits m c ≡ true
+unfolding fits
+bits-fit m c f h = rw (ne-eqb c 0 f, eq-eqb (bitAnd m c) c (test-ext (bitAnd m c) c (λ j. test-and m c j ∙ table (testBit m j) (testBit c j) (h j))))
+  where
+    table : (p q : Bool) → (q ≡ true → p ≡ true) → (p && q) ≡ q
+    table true q h = refl
+    table false true h = clash (h refl) refl
+    table false false h = refl
+
+-- of the bits of m, c and d, with d within m
+both : (p q : Bool) → (q ≡ true → p ≡ true) → xor p q ≡ true → p ≡ true
+unfolding xor
+both true q h e = refl
+both false true h e = clash (h refl) refl
+both false false h e = e
+
+apart : (p q : Bool) → p ≡ true → q ≡ true → xor p q ≡ true → ⊥
+unfolding xor
+apart true true h k e = clash e refl
+apart true false h k e = clash k refl
+apart false q h k e = clash h refl
+
+alone : (p q : Bool) → p ≡ true → q ≡ false → xor p q ≡ true
+unfolding xor
+alone true true h k = clash refl k
+alone true false h k = refl
+alone false q h k = clash h refl
+
+module _ (m c d : ℕ) (k : fits m d ≡ true) where
+  left-bit : (j : ℕ) → testBit (bitXor m d) j ≡ true → xor (testBit m j) (testBit d j) ≡ true
+  left-bit j t = sym (test-xor m d j) ∙ t
+
+  -- what fits in what d leaves fits in m
+  pub fits-more : fits (bitXor m d) c ≡ true → fits m c ≡ true
+  fits-more e =
+      let p = fits-bits (bitXor m d) c e in
+      let q = fits-bits m d k in
+      bits-fit m c (p .0) (λ j t. both (testBit m j) (testBit d j) (q .1 j) (left-bit j (p .1 j t)))
+
+  -- of two that fit, where the first fits in what the second leaves, so does the second in what the first leaves
+  pub fits-turn : fits m c ≡ true → fits (bitXor m d) c ≡ true → fits (bitXor m c) d ≡ true
+  fits-turn h e =
+      let p = fits-bits (bitXor m d) c e in
+      let q = fits-bits m d k in
+      bits-fit (bitXor m c) d (q .0) (λ j t. test-xor m c j ∙ alone (testBit m j) (testBit c j) (q .1 j t) (not-so (testBit c j) (λ u. apart (testBit m j) (testBit d j) (q .1 j t) t (left-bit j (p .1 j u)))))
+
+  -- d does not fit in what it leaves
+  pub fits-once : fits (bitXor m d) d ≡ false
+  fits-once = not-so (fits (bitXor m d) d) (λ e.
+      let p = fits-bits (bitXor m d) d e in
+      let q = fits-bits m d k in
+      p .0 (none-zero d (λ j. not-so (testBit d j) (λ t. apart (testBit m j) (testBit d j) (q .1 j t) t (left-bit j (p .1 j t))))))

@@ -1,0 +1,13 @@
+pub mod Follow
+pub mod First
+pub mod Distinct
+pub mod Bitwise
+pub mod Ones
+pub mod Turn
+pub mod ByMasks
+pub mod Steps
+pub mod Chain
+pub mod Merge
+pub mod Fresh
+pub mod Whole
+pub mod Laws
