@@ -1,0 +1,65 @@
+// What every call on a lent graph checks first: document 01, "Edge graph" and "Codes on the marking sheet".
+use codes::Checked;
+use codes::Refusal;
+use packed::Packed;
+ghost use mathlib.Core.Path.{_≡_};
+ghost use Rattle.calls.specs.Call.{lentOf, checkRows, checkCall};
+
+// 8, 9, then 10.
+fn check_rows(detectors: usize, rows: &[u64], shots: usize, width: usize) -> Checked
+    ensures { λ r. ⌜ r ≡ checkRows detectors (now (rows .entry)) shots width ⌝ }
+{
+    let packed = packed::try_from_shot_major(rows, shots, width);
+    if let Packed::Refused(r) = packed {
+        return Checked::Refused(r);
+    }
+    if width != detectors {
+        return Checked::Refused(Refusal::Width);
+    }
+    Checked::Accepted
+}
+
+// 1, 2 (the tables, and whether the call's own slices are long enough), the graph, then 8, 9, 10.
+pub fn check_call(
+    detectors: usize,
+    observables: usize,
+    edges: usize,
+    edge_u: &[u32],
+    edge_v: &[u32],
+    edge_weight: &[f64],
+    edge_obs: &[u64],
+    long: bool,
+    rows: &[u64],
+    shots: usize,
+    width: usize,
+) -> Checked
+    ensures { λ r. ⌜ r ≡ checkCall (lentOf detectors observables edges (now («edge_u» .entry)) (now («edge_v» .entry)) (now («edge_weight» .entry)) (now («edge_obs» .entry))) long (now (rows .entry)) shots width ⌝ }
+{
+    let counts = codes::check_counts(detectors, observables, edges);
+    if let Checked::Refused(r) = counts {
+        return Checked::Refused(r);
+    }
+    let few = codes::check_shots(shots);
+    if let Checked::Refused(r) = few {
+        return Checked::Refused(r);
+    }
+    if !lent::tables_long(observables, edges, edge_u, edge_v, edge_weight, edge_obs) {
+        return Checked::Refused(Refusal::Short);
+    }
+    if !long {
+        return Checked::Refused(Refusal::Short);
+    }
+    let graph = lent::check_edges(
+        detectors,
+        observables,
+        edges,
+        edge_u,
+        edge_v,
+        edge_weight,
+        edge_obs,
+    );
+    if let Checked::Refused(r) = graph {
+        return Checked::Refused(r);
+    }
+    check_rows(detectors, rows, shots, width)
+}
