@@ -2,23 +2,21 @@
 use Prim.Native.Nat.{ℕ, zero, suc, _+_, _-_, _*_, _≤_, _<_}
 use native.Mathlib.Omega.{arith}
 use native.Mathlib.Nat.{mul-le-mul, mul-le-mul-right, suc-mul}
-use mathlib.Core.Path.{_≡_, refl, sym, ap, _∙_}
+use mathlib.Core.Path.{_≡_, refl, ap, _∙_}
 use mathlib.Core.List.{List, [], _∷_, map}
-use mathlib.Core.Bool.{Bool, true, false, not, _&&_, _||_}
-use lib.Dec.{eqb, ltb}
+use mathlib.Core.Bool.{Bool, true, false, not}
 use lib.Ieee.{Float, nan}
 use lib.ListN.{length, getD, take, drop, length-take, length-drop, List·getD-map}
 use lib.Seq.{getD-take}
 use borrow.Author.Tests.{eq-eqb}
 use Rattle.lists.specs.Lists.{from, below}
 use Rattle.lists.proofs.Members.{length-below, below-at}
-use Rattle.bits.specs.Rows.{words, isClear}
-use Rattle.codes.specs.declared.Refusal.{Refusal}
+use Rattle.bits.specs.Rows.{words}
 use Rattle.codes.specs.declared.Checked.{Checked}
-use Rattle.codes.specs.declared.Checked.the-variants.{Accepted, Refused}
+use Rattle.codes.specs.declared.Checked.the-variants.{Accepted}
 use Rattle.codes.specs.Order.{andThen}
 use Rattle.codes.specs.Limits.{maxObservables, maxMechanisms}
-use Rattle.steps.specs.Graph.{Graph, boundary}
+use Rattle.steps.specs.Graph.{boundary}
 use Rattle.steps.specs.Call.{graphOf, endsFit, observablesFit, checkEdge, checkEdges}
 use Rattle.lent.specs.Lent.{endsOf, checkRow}
 

@@ -1,11 +1,11 @@
 -- The law of the check, proved. Assumes nothing.
 use Prim.Native.Nat.{ℕ, _*_, _≤_}
-use mathlib.Core.Path.{_≡_, refl, sym, _∙_}
+use mathlib.Core.Path.{_≡_, sym, _∙_}
 use mathlib.Core.List.{List}
-use mathlib.Core.Bool.{Bool, true, not, _&&_}
+use mathlib.Core.Bool.{true, not, _&&_}
 use lib.Dec.{leb}
 use lib.Ieee.{Float}
-use lib.ListN.{length, take, drop}
+use lib.ListN.{length, take}
 use lib.Seq.{length-take-le}
 use borrow.Author.Tests.{leb-true, not-false}
 use Rattle.lists.specs.Lists.{below}
@@ -13,10 +13,9 @@ use Rattle.lists.proofs.Truth.{and-left, and-right}
 use Rattle.lists.proofs.Members.{length-below}
 use Rattle.bits.specs.Rows.{words}
 use Rattle.codes.specs.declared.Refusal.the-variants.{Short}
-use Rattle.codes.specs.declared.Checked.the-variants.{Accepted}
 use Rattle.codes.specs.Order.{refuseIf, andThen}
 use Rattle.codes.specs.Limits.{checkCounts}
-use Rattle.steps.specs.Call.{graphOf, checkEdges, AcceptedGraph}
+use Rattle.steps.specs.Call.{graphOf, checkEdges}
 use Rattle.lent.specs.Lent.{tablesLong, checkLent}
 use Rattle.lent.specs.Laws.{LentAccepted}
 use Rattle.lent.proofs.Edges.{length-map}

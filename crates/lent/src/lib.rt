@@ -5,7 +5,7 @@ ghost use lib.ListN.{length};
 ghost use Rattle.lists.specs.Lists.{below};
 ghost use Rattle.bits.specs.Rows.{words, isClear};
 ghost use Rattle.weight.specs.Weight.{weightFits};
-ghost use Rattle.codes.specs.Limits.{maxDetectors, maxObservables, maxMechanisms};
+ghost use Rattle.codes.specs.Limits.{maxObservables, maxMechanisms};
 ghost use Rattle.steps.specs.Call.{graphOf, checkEdges};
 ghost use Rattle.lent.specs.Lent.{endsOf, checkRow, tablesLong, checkLent};
 use codes::Checked;

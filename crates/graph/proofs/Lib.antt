@@ -1,0 +1,10 @@
+pub mod Chains
+pub mod Fill
+pub mod Rows
+pub mod Slices
+pub mod Sharing
+pub mod Joining
+pub mod Going
+pub mod Answers
+pub mod Accepted
+pub mod Laws

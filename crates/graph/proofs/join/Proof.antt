@@ -1,0 +1,153 @@
+-- `graph::join` meets its contract: refused, skipped, too large, or an edge.
+use mathlib.Core.Path.{sym, ap, _∙_}
+use native.Mathlib.Omega.{arith}
+use lib.Ieee.{ofBits}
+use Rattle.dem.specs.Model.{listFits}
+use Rattle.graph.specs.Tables.{slices}
+use Rattle.graph.proofs.Joining.{is-refused, is-zero, is-empty, is-large, is-edge, first-below, row-fits, row-is-lent}
+use borrow.Author.Needs.{needs}
+use Rattle.graph.proofs.join.Statement.{statement}
+use Rattle.graph.proofs.join.Tie as tie
+
+check-mechanism-requires : tie.Need-check-mechanism-requires
+check-mechanism-requires c κs = search needs
+
+enum-known-checked : tie.Need-enum-known-checked
+enum-known-checked c = search needs
+
+returns : tie.Need-returns
+returns c =
+    let args = c .before .before .before .before .before .before .before .before .before .before .before .before .before .before .args in
+    let t = slices (args .edge-u .now) (args .edge-v .now) (args .edge-weight .now) (args .edge-obs .now) (args .edge-p .now) in
+    (is-refused (args .detectors) (args .observables) (args .i) (args .count) (args .head) (args .place) (args .component-detectors .now) (args .component-observables .now) (args .entries .now) t _ _ (sym (c .before .before .before .check-mechanism .ensures) ∙ c .before .checked .given .1), tt)
+
+enum-told : tie.Need-enum-told
+enum-told c = search needs
+
+cast-d : tie.Need-cast-d
+cast-d c = search needs
+
+returns-2 : tie.Need-returns-2
+unfolding ofBits
+returns-2 c =
+    let args = c .before .before .before .before .before .before .before .before .before .before .before .before .before .before .before .args in
+    let t = slices (args .edge-u .now) (args .edge-v .now) (args .edge-weight .now) (args .edge-obs .now) (args .edge-p .now) in
+    let fits = sym (c .before .before .before .before .check-mechanism .ensures) ∙ c .before .before .enum-told .given .1 in
+    (is-zero (args .detectors) (args .observables) (args .i) (args .count) (args .head) (args .place) (args .component-detectors .now) (args .component-observables .now) (args .entries .now) t fits (c .if1 .taken), c .before .before .before .before .before .before .before .before .before .before .before .before .before .before .before .pre .3)
+
+returns-3 : tie.Need-returns-3
+unfolding ofBits
+returns-3 c =
+    let args = c .before .before .before .before .before .before .before .before .before .before .before .before .before .before .before .before .args in
+    let t = slices (args .edge-u .now) (args .edge-v .now) (args .edge-weight .now) (args .edge-obs .now) (args .edge-p .now) in
+    let fits = sym (c .before .before .before .before .before .check-mechanism .ensures) ∙ c .before .before .before .enum-told .given .1 in
+    (is-empty (args .detectors) (args .observables) (args .i) (args .count) (args .head) (args .place) (args .component-detectors .now) (args .component-observables .now) (args .entries .now) t fits (c .before .if1 .left) (c .if2 .taken), c .before .before .before .before .before .before .before .before .before .before .before .before .before .before .before .before .pre .3)
+
+returns-4 : tie.Need-returns-4
+unfolding ofBits
+returns-4 c =
+    let args = c .before .before .before .before .before .before .before .before .before .before .before .before .before .before .before .before .before .args in
+    let t = slices (args .edge-u .now) (args .edge-v .now) (args .edge-weight .now) (args .edge-obs .now) (args .edge-p .now) in
+    let fits = sym (c .before .before .before .before .before .before .check-mechanism .ensures) ∙ c .before .before .before .before .enum-told .given .1 in
+    (is-large (args .detectors) (args .observables) (args .i) (args .count) (args .head) (args .place) (args .component-detectors .now) (args .component-observables .now) (args .entries .now) t (c .before .before .before .before .before .before .before .before .before .before .before .before .before .before .before .before .before .pre .0) _ fits (c .before .before .if1 .left) (c .if3 .taken), tt)
+
+add-from : tie.Need-add-from
+add-from c = omega (arith, c .before .before .before .before .before .before .before .before .before .before .before .before .before .before .before .before .before .pre .0 .entries, c .before .before .before .before .before .before .before .before .before .before .before .before .before .before .before .before .before .good .1 .1 .1 .1 .1 .1 .1 .0)
+
+cast-to : tie.Need-cast-to
+cast-to c = search needs
+
+add-to : tie.Need-add-to
+add-to c = omega (arith, c .before .before .before .before .before .before .before .before .before .before .before .before .before .before .before .before .before .before .pre .0 .entries, c .before .before .before .before .before .before .before .before .before .before .before .before .before .before .before .before .before .before .good .1 .1 .1 .1 .1 .1 .1 .0)
+
+second-end-requires : tie.Need-second-end-requires
+second-end-requires c κs = search needs
+
+mul-share : tie.Need-mul-share
+mul-share c = omega (arith, c .before .before .before .before .before .before .before .before .before .before .before .before .before .before .before .before .before .before .before .pre .0 .entries, c .before .before .before .before .before .before .before .before .before .before .before .before .before .before .before .before .before .before .before .good .1 .1 .1 .1 .1 .1 .1 .0, c .before .before .before .if2 .left)
+
+shared-slice-read-share : tie.Need-shared-slice-read-share
+shared-slice-read-share c = search needs
+
+mul-share-2 : tie.Need-mul-share-2
+mul-share-2 c = omega (arith, c .before .before .before .before .before .before .before .before .before .before .before .before .before .before .before .before .before .before .before .before .pre .0 .entries, c .before .before .before .before .before .before .before .before .before .before .before .before .before .before .before .before .before .before .before .before .good .1 .1 .1 .1 .1 .1 .1 .0)
+
+sub-share : tie.Need-sub-share
+sub-share c = search needs
+
+part-share-start : tie.Need-part-share-start
+part-share-start c = search needs
+
+part-share-end : tie.Need-part-share-end
+part-share-end c = search needs
+
+share-requires : tie.Need-share-requires
+share-requires c κs =
+    let args = c .before .before .before .before .before .before .before .before .before .before .before .before .before .before .before .before .before .before .before .before .before .before .before .before .before .before .before .before .args in
+    let pre = c .before .before .before .before .before .before .before .before .before .before .before .before .before .before .before .before .before .before .before .before .before .before .before .before .before .before .before .before .pre in
+    let t = slices (args .edge-u .now) (args .edge-v .now) (args .edge-weight .now) (args .edge-obs .now) (args .edge-p .now) in
+    let fits = sym (c .before .before .before .before .before .before .before .before .before .before .before .before .before .before .before .before .before .check-mechanism .ensures) ∙ c .before .before .before .before .before .before .before .before .before .before .before .before .before .before .before .enum-told .given .1 in
+    (let k = first-below (args .detectors) (args .observables) (args .i) (args .count) (args .head) (args .place) (args .component-detectors .now) (args .component-observables .now) (args .entries .now) t (pre .0) fits (omega (arith, c .before .before .before .before .before .before .before .before .before .before .before .before .if2 .left)) in omega (arith, k, pre .1), sym (ap (listFits (args .observables)) (row-is-lent (args .detectors) (args .observables) (args .i) (args .count) (args .head) (args .place) (args .component-detectors .now) (args .component-observables .now) (args .entries .now) t)) ∙ row-fits (args .detectors) (args .observables) (args .i) (args .count) (args .head) (args .place) (args .component-detectors .now) (args .component-observables .now) (args .entries .now) t fits, pre .2, pre .3)
+
+same-length : tie.Need-same-length
+same-length c = search needs
+
+same-length-2 : tie.Need-same-length-2
+same-length-2 c = search needs
+
+same-length-3 : tie.Need-same-length-3
+same-length-3 c = search needs
+
+same-length-4 : tie.Need-same-length-4
+same-length-4 c = search needs
+
+same-length-5 : tie.Need-same-length-5
+same-length-5 c = search needs
+
+same-length-6 : tie.Need-same-length-6
+same-length-6 c = search needs
+
+same-length-7 : tie.Need-same-length-7
+same-length-7 c = search needs
+
+returns-5 : tie.Need-returns-5
+unfolding ofBits
+returns-5 c =
+    let args = c .before .before .before .before .before .before .before .before .before .before .before .before .before .before .before .before .before .before .before .before .before .before .before .before .before .before .before .before .before .before .before .before .before .before .before .before .before .before .before .before .before .before .before .args in
+    let second-end = c .before .before .before .before .before .before .before .before .before .before .before .before .before .before .before .before .before .before .before .before .before .before .before .before .second-end in
+    let share = c .before .before .before .before .before .before .before .before .before .before .before .before .before .before .share in
+    let t = slices (args .edge-u .now) (args .edge-v .now) (args .edge-weight .now) (args .edge-obs .now) (args .edge-p .now) in
+    let fits = sym (c .before .before .before .before .before .before .before .before .before .before .before .before .before .before .before .before .before .before .before .before .before .before .before .before .before .before .before .before .before .before .before .before .check-mechanism .ensures) ∙ c .before .before .before .before .before .before .before .before .before .before .before .before .before .before .before .before .before .before .before .before .before .before .before .before .before .before .before .before .before .before .enum-told .given .1 in
+    (is-edge (args .detectors) (args .observables) (args .i) (args .count) (args .head) (args .place) (args .component-detectors .now) (args .component-observables .now) (args .entries .now) t (c .before .before .before .before .before .before .before .before .before .before .before .before .before .before .before .before .before .before .before .before .before .before .before .before .before .before .before .before .before .before .before .before .before .before .before .before .before .before .before .before .before .before .before .pre .0) (second-end .result) (share .result) _ fits (c .before .before .before .before .before .before .before .before .before .before .before .before .before .before .before .before .before .before .before .before .before .before .before .before .before .before .before .before .if1 .left) (omega (arith, c .before .before .before .before .before .before .before .before .before .before .before .before .before .before .before .before .before .before .before .before .before .before .before .before .before .before .before .if2 .left)) (omega (arith, c .before .before .before .before .before .before .before .before .before .before .before .before .before .before .before .before .before .before .before .before .before .before .before .before .before .before .if3 .left)) (second-end .ensures) (share .ensures .0), share .ensures .1)
+
+pub join-spec : {M : Type 1} → statement M
+join-spec =
+    tie.close
+    (tie.spec
+    check-mechanism-requires
+    enum-known-checked
+    returns
+    enum-told
+    cast-d
+    returns-2
+    returns-3
+    returns-4
+    add-from
+    cast-to
+    add-to
+    second-end-requires
+    mul-share
+    shared-slice-read-share
+    mul-share-2
+    sub-share
+    part-share-start
+    part-share-end
+    share-requires
+    same-length
+    same-length-2
+    same-length-3
+    same-length-4
+    same-length-5
+    same-length-6
+    same-length-7
+    returns-5)

@@ -1,0 +1,62 @@
+-- `graph::zero_f64`: the table is zero up to here, then as it was.
+use Prim.Native.Nat.{_-_, _≤_}
+use mathlib.Core.Path.{_≡_, refl, sym, ap, _∙_}
+use mathlib.Core.Bool.{false}
+use native.Mathlib.Omega.{arith}
+use lib.IntN.{pos}
+use lib.Ieee.{fin, ofBits}
+use lib.ListN.{length, set, length-set}
+use borrow.Author.Needs.{needs}
+use Rattle.graph.proofs.Fill.{front, front-none, front-more, front-all}
+use Rattle.graph.proofs.zero_f64.Statement.{statement}
+use Rattle.graph.proofs.zero_f64.Tie as tie
+
+abbrev Inv-loop : tie.InvT-loop
+Inv-loop table₀ i₀ table i = (i ≤ length table₀) × (length table ≡ length table₀) × (table ≡ front (fin false 0 (pos 0)) i table₀)
+
+abbrev μ-loop : tie.MeasureT-loop
+μ-loop table₀ i₀ table i = length table₀ - i
+
+loop-holds : tie.Need-loop-holds Inv-loop μ-loop
+loop-holds c = (search needs, refl, sym (front-none (fin false 0 (pos 0)) (c .args .table .now)))
+
+mul-table : tie.Need-mul-table Inv-loop μ-loop
+mul-table c = search needs
+
+slice-write-table : tie.Need-slice-write-table Inv-loop μ-loop
+slice-write-table c = search needs
+
+add-i : tie.Need-add-i Inv-loop μ-loop
+add-i c = search needs
+
+loop-less : tie.Need-loop-less Inv-loop μ-loop
+loop-less c = omega (arith, c .before .loop .inv .1)
+
+loop-again : tie.Need-loop-again Inv-loop μ-loop
+unfolding ofBits
+loop-again c =
+    let loop = c .before .loop in
+    (omega (arith, loop .inv .1), length-set (loop .table) (loop .i) _ ∙ loop .inv .1, ap (λ l. set l (loop .i) (fin false 0 (pos 0))) (loop .inv .2) ∙ front-more (fin false 0 (pos 0)) (loop .i) (c .before .before .args .table .now) (omega (arith, loop .inv .1)))
+
+same-length : tie.Need-same-length Inv-loop μ-loop
+same-length c = c .before .loop .inv .1
+
+returns : tie.Need-returns Inv-loop μ-loop
+returns c =
+    let loop = c .before .loop in
+    loop .inv .2 ∙ front-all (fin false 0 (pos 0)) (loop .i) (c .before .before .args .table .now) (omega (arith, loop .inv .0, loop .inv .1))
+
+pub zero-f64-spec : {M : Type 1} → statement M
+zero-f64-spec =
+    tie.close
+    (tie.spec
+    Inv-loop
+    μ-loop
+    loop-holds
+    mul-table
+    slice-write-table
+    add-i
+    loop-less
+    loop-again
+    same-length
+    returns)
