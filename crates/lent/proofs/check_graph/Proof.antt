@@ -1,5 +1,5 @@
 -- `lent::check_graph` meets its contract: each return rewrites by the checks that led there.
-use mathlib.Core.Path.{sym, _∙_}
+use mathlib.Core.Path.{_≡_, sym, _∙_}
 use borrow.Author.Tests.{not-true, not-false}
 use Rattle.lent.specs.Lent.{checkLent}
 use Rattle.lent.proofs.Limits.{limited}
@@ -24,7 +24,7 @@ enum-told c = search needs
 tables-long-requires : tie.Need-tables-long-requires
 tables-long-requires c κs =
     let args = c .before .before .before .before .before .before .before .args in
-    let limits = limited (args .detectors) (args .observables) (args .edges) (sym (c .before .before .check-counts .ensures) ∙ c .enum-told .given .1) in
+    let limits = (limited (args .detectors) (args .observables) (args .edges) (sym (c .before .before .check-counts .ensures) ∙ c .enum-told .given .1)) in
     (limits .observables, limits .few)
 
 returns-2 : tie.Need-returns-2
@@ -34,8 +34,8 @@ returns-2 c = simp (sym (c .before .before .before .before .check-counts .ensure
 check-edges-requires : tie.Need-check-edges-requires
 check-edges-requires c κs =
     let args = c .before .before .before .before .before .before .before .before .before .args in
-    let limits = limited (args .detectors) (args .observables) (args .edges) (sym (c .before .before .before .before .check-counts .ensures) ∙ c .before .before .enum-told .given .1) in
-    let tables = long (args .observables) (args .edges) (args .edge-u .now) (args .edge-v .now) (args .edge-weight .now) (args .edge-obs .now) (sym (c .before .tables-long .ensures) ∙ not-false _ (c .if1 .left)) in
+    let limits = (limited (args .detectors) (args .observables) (args .edges) (sym (c .before .before .before .before .check-counts .ensures) ∙ c .before .before .enum-told .given .1)) in
+    let tables = (long (args .observables) (args .edges) (args .edge-u .now) (args .edge-v .now) (args .edge-weight .now) (args .edge-obs .now) (sym (c .before .tables-long .ensures) ∙ not-false _ (c .if1 .left))) in
     (limits .observables, limits .few, tables .ends, tables .others, tables .weights, tables .rows)
 
 returns-3 : tie.Need-returns-3

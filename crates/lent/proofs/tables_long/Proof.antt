@@ -1,9 +1,11 @@
 -- `lent::tables_long` meets its contract: each return rewrites by the tests that led there.
+use mathlib.Core.Path.{ap, sym, _∙_}
 use Prim.Native.Nat.{_≤_}
 use native.Mathlib.Omega.{arith}
 use native.Mathlib.Nat.{mul-le-mul}
 use borrow.Author.Tests.{le-leb, lt-leb}
 use Rattle.bits.specs.Rows.{words}
+use Rattle.bits.proofs.Word.{words-tight}
 use Rattle.lent.specs.Lent.{tablesLong}
 use borrow.Author.Needs.{needs}
 use Rattle.lent.proofs.tables_long.Statement.{statement}
@@ -26,9 +28,7 @@ words-requires c κs = search needs
 
 mul-result : tie.Need-mul-result
 unfolding words
-mul-result c =
-    let pre = c .before .before .before .before .before .before .before .before .pre in
-    let n : c .words .result ≤ 2 = omega (arith, c .words .ensures, pre .0) in omega (arith, mul-le-mul (pre .1) n)
+mul-result c = let n : c .words .result ≤ 2 = omega (arith, c .words .ensures, c .before .before .before .before .before .before .before .before .pre .0) in omega (arith, mul-le-mul (c .before .before .before .before .before .before .before .before .pre .1) n)
 
 returns-4 : tie.Need-returns-4
 unfolding tablesLong

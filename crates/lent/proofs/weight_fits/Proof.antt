@@ -2,7 +2,7 @@
 use mathlib.Core.Path.{_≡_}
 use mathlib.Core.Bool.{true, false}
 use lib.IntN.{pos}
-use lib.Ieee.{fin, ofBits, nanBits, le}
+use lib.Ieee.{Float, inf, fin, ofBits, nanBits, le, eq}
 use Rattle.weight.specs.Weight.{weightFits}
 use Rattle.lent.proofs.weight_fits.Statement.{statement}
 use Rattle.lent.proofs.weight_fits.Tie as tie
