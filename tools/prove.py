@@ -276,6 +276,11 @@ def made(root, crate):
     return kept
 
 
+def refused(said):
+    """Whether a check refused the code or a contract, or did not come to its end."""
+    return re.search(r"/src/\S+: error(?!.*`search`)", said) or not said.rstrip().rpartition("\n")[2].startswith("logic=")
+
+
 def make(root, crates):
     """Templates and places, from a repository below target/ in which the crate has no proofs.
 
@@ -305,7 +310,9 @@ def make(root, crates):
             spec = re.search(r"^pub (\S+-spec) : .*(?:\n .*)*", text, re.M)
             write(crate / "proofs" / fn / "Proof.antt", f"{head}\n\n{spec.group()}\n{spec.group(1)} = ?\n")
         more = new and "is not made yet" in said
-    if re.search(r"/src/\S+: error(?!.*`search`)", said) or not said.rstrip().rpartition("\n")[2].startswith("logic="):
+    if refused(said):
+        said = rt(repo, "dev", crates[0])  # what was said before the last files were there may only follow from their absence
+    if refused(said):
         said = short(said.replace(str(repo), str(root)))
         raise Problem(f"no templates, since the code, a contract or a dependency is refused:\n{said}")
     with tempfile.TemporaryDirectory(dir=repo / "target") as folder:

@@ -1,5 +1,5 @@
 -- `graph::check_slices` meets its contract: the limits, the model's tables, then the other slices.
-use mathlib.Core.Path.{sym, _∙_}
+use mathlib.Core.Path.{_≡_, sym, _∙_}
 use borrow.Author.Tests.{not-true, not-false}
 use Rattle.dem.specs.Positions.{tables}
 use Rattle.dem.proofs.Accepted.{counts-within}
@@ -19,8 +19,8 @@ enum-known-counts c = search needs
 returns : tie.Need-returns
 returns c =
     let args = c .before .before .before .before .before .before .before .before .before .before .before .before .before .before .before .before .before .before .args in
-    let t = tables (args .probability .now) (args .detector-counts .now) (args .observable-counts .now) (args .component-counts .now) (args .component-detectors .now) (args .component-observables .now) (args .entries .now) in
-    let out = slices (args .edge-u .now) (args .edge-v .now) (args .edge-weight .now) (args .edge-obs .now) (args .edge-p .now) in
+    let t = (tables (args .probability .now) (args .detector-counts .now) (args .observable-counts .now) (args .component-counts .now) (args .component-detectors .now) (args .component-observables .now) (args .entries .now)) in
+    let out = (slices (args .edge-u .now) (args .edge-v .now) (args .edge-weight .now) (args .edge-obs .now) (args .edge-p .now)) in
     over-limit (args .detectors) (args .observables) (args .mechanisms) t out (args .first .now) (args .next .now) _ _ (c .before .before .before .check-counts .ensures) (c .before .counts .given .1)
 
 enum-told : tie.Need-enum-told
@@ -29,7 +29,7 @@ enum-told c = search needs
 check-tables-requires : tie.Need-check-tables-requires
 check-tables-requires c κs =
     let args = c .before .before .before .before .before .before .before .before .before .before .before .before .before .before .before .before .before .args in
-    let within = counts-within (args .detectors) (args .observables) (args .mechanisms) (sym (c .before .before .check-counts .ensures) ∙ c .enum-told .given .1) in
+    let within = (counts-within (args .detectors) (args .observables) (args .mechanisms) (sym (c .before .before .check-counts .ensures) ∙ c .enum-told .given .1)) in
     within .2
 
 enum-known-held : tie.Need-enum-known-held
@@ -38,8 +38,8 @@ enum-known-held c = search needs
 returns-2 : tie.Need-returns-2
 returns-2 c =
     let args = c .before .before .before .before .before .before .before .before .before .before .before .before .before .before .before .before .before .before .before .before .before .args in
-    let t = tables (args .probability .now) (args .detector-counts .now) (args .observable-counts .now) (args .component-counts .now) (args .component-detectors .now) (args .component-observables .now) (args .entries .now) in
-    let out = slices (args .edge-u .now) (args .edge-v .now) (args .edge-weight .now) (args .edge-obs .now) (args .edge-p .now) in
+    let t = (tables (args .probability .now) (args .detector-counts .now) (args .observable-counts .now) (args .component-counts .now) (args .component-detectors .now) (args .component-observables .now) (args .entries .now)) in
+    let out = (slices (args .edge-u .now) (args .edge-v .now) (args .edge-weight .now) (args .edge-obs .now) (args .edge-p .now)) in
     short-model (args .detectors) (args .observables) (args .mechanisms) t out (args .first .now) (args .next .now) _ (c .before .before .before .before .before .before .check-counts .ensures) (c .before .before .before .before .enum-told .given .1) _ (sym (c .before .before .before .check-tables .ensures) ∙ c .before .held .given .1)
 
 enum-told-2 : tie.Need-enum-told-2
@@ -48,16 +48,16 @@ enum-told-2 c = search needs
 tables-long-requires : tie.Need-tables-long-requires
 tables-long-requires c κs =
     let args = c .before .before .before .before .before .before .before .before .before .before .before .before .before .before .before .before .before .before .before .before .args in
-    let within = counts-within (args .detectors) (args .observables) (args .mechanisms) (sym (c .before .before .before .before .before .check-counts .ensures) ∙ c .before .before .before .enum-told .given .1) in
+    let within = (counts-within (args .detectors) (args .observables) (args .mechanisms) (sym (c .before .before .before .before .before .check-counts .ensures) ∙ c .before .before .before .enum-told .given .1)) in
     (within .1, within .2)
 
 returns-3 : tie.Need-returns-3
 unfolding slicesLong
 returns-3 c =
     let args = c .before .before .before .before .before .before .before .before .before .before .before .before .before .before .before .before .before .before .before .before .before .before .args in
-    let t = tables (args .probability .now) (args .detector-counts .now) (args .observable-counts .now) (args .component-counts .now) (args .component-detectors .now) (args .component-observables .now) (args .entries .now) in
-    let out = slices (args .edge-u .now) (args .edge-v .now) (args .edge-weight .now) (args .edge-obs .now) (args .edge-p .now) in
-    let rest = by-slices (args .detectors) (args .observables) (args .mechanisms) t out (args .first .now) (args .next .now) _ (c .before .before .before .before .before .before .before .check-counts .ensures) (c .before .before .before .before .before .enum-told .given .1) (sym (c .before .before .before .before .check-tables .ensures) ∙ c .before .before .enum-told2 .given .1) in
+    let t = (tables (args .probability .now) (args .detector-counts .now) (args .observable-counts .now) (args .component-counts .now) (args .component-detectors .now) (args .component-observables .now) (args .entries .now)) in
+    let out = (slices (args .edge-u .now) (args .edge-v .now) (args .edge-weight .now) (args .edge-obs .now) (args .edge-p .now)) in
+    let rest = (by-slices (args .detectors) (args .observables) (args .mechanisms) t out (args .first .now) (args .next .now) _ (c .before .before .before .before .before .before .before .check-counts .ensures) (c .before .before .before .before .before .enum-told .given .1) (sym (c .before .before .before .before .check-tables .ensures) ∙ c .before .before .enum-told2 .given .1)) in
     sym (sym rest ∙ simp (sym (c .before .tables-long .ensures) ∙ not-true _ (c .if1 .taken)))
 
 scratch-long-requires : tie.Need-scratch-long-requires
@@ -67,18 +67,18 @@ returns-4 : tie.Need-returns-4
 unfolding slicesLong
 returns-4 c =
     let args = c .before .before .before .before .before .before .before .before .before .before .before .before .before .before .before .before .before .before .before .before .before .before .before .before .args in
-    let t = tables (args .probability .now) (args .detector-counts .now) (args .observable-counts .now) (args .component-counts .now) (args .component-detectors .now) (args .component-observables .now) (args .entries .now) in
-    let out = slices (args .edge-u .now) (args .edge-v .now) (args .edge-weight .now) (args .edge-obs .now) (args .edge-p .now) in
-    let rest = by-slices (args .detectors) (args .observables) (args .mechanisms) t out (args .first .now) (args .next .now) _ (c .before .before .before .before .before .before .before .before .before .check-counts .ensures) (c .before .before .before .before .before .before .before .enum-told .given .1) (sym (c .before .before .before .before .before .before .check-tables .ensures) ∙ c .before .before .before .before .enum-told2 .given .1) in
+    let t = (tables (args .probability .now) (args .detector-counts .now) (args .observable-counts .now) (args .component-counts .now) (args .component-detectors .now) (args .component-observables .now) (args .entries .now)) in
+    let out = (slices (args .edge-u .now) (args .edge-v .now) (args .edge-weight .now) (args .edge-obs .now) (args .edge-p .now)) in
+    let rest = (by-slices (args .detectors) (args .observables) (args .mechanisms) t out (args .first .now) (args .next .now) _ (c .before .before .before .before .before .before .before .before .before .check-counts .ensures) (c .before .before .before .before .before .before .before .enum-told .given .1) (sym (c .before .before .before .before .before .before .check-tables .ensures) ∙ c .before .before .before .before .enum-told2 .given .1)) in
     sym (sym rest ∙ simp (sym (c .before .before .before .tables-long .ensures) ∙ not-false _ (c .before .before .if1 .left), sym (c .before .scratch-long .ensures) ∙ not-true _ (c .if2 .taken)))
 
 returns-5 : tie.Need-returns-5
 unfolding slicesLong
 returns-5 c =
     let args = c .before .before .before .before .before .before .before .before .before .before .before .before .before .before .before .before .before .before .before .before .before .before .before .before .args in
-    let t = tables (args .probability .now) (args .detector-counts .now) (args .observable-counts .now) (args .component-counts .now) (args .component-detectors .now) (args .component-observables .now) (args .entries .now) in
-    let out = slices (args .edge-u .now) (args .edge-v .now) (args .edge-weight .now) (args .edge-obs .now) (args .edge-p .now) in
-    let rest = by-slices (args .detectors) (args .observables) (args .mechanisms) t out (args .first .now) (args .next .now) _ (c .before .before .before .before .before .before .before .before .before .check-counts .ensures) (c .before .before .before .before .before .before .before .enum-told .given .1) (sym (c .before .before .before .before .before .before .check-tables .ensures) ∙ c .before .before .before .before .enum-told2 .given .1) in
+    let t = (tables (args .probability .now) (args .detector-counts .now) (args .observable-counts .now) (args .component-counts .now) (args .component-detectors .now) (args .component-observables .now) (args .entries .now)) in
+    let out = (slices (args .edge-u .now) (args .edge-v .now) (args .edge-weight .now) (args .edge-obs .now) (args .edge-p .now)) in
+    let rest = (by-slices (args .detectors) (args .observables) (args .mechanisms) t out (args .first .now) (args .next .now) _ (c .before .before .before .before .before .before .before .before .before .check-counts .ensures) (c .before .before .before .before .before .before .before .enum-told .given .1) (sym (c .before .before .before .before .before .before .check-tables .ensures) ∙ c .before .before .before .before .enum-told2 .given .1)) in
     sym (sym rest ∙ simp (sym (c .before .before .before .tables-long .ensures) ∙ not-false _ (c .before .before .if1 .left), sym (c .before .scratch-long .ensures) ∙ not-false _ (c .if2 .left)))
 
 pub check-slices-spec : {M : Type 1} → statement M

@@ -1,7 +1,10 @@
 -- `graph::fill_u32`: the table is the number up to here, then as it was.
 use Prim.Native.Nat.{_-_, _≤_}
 use mathlib.Core.Path.{_≡_, refl, sym, ap, _∙_}
+use mathlib.Core.Bool.{false}
 use native.Mathlib.Omega.{arith}
+use lib.IntN.{pos}
+use lib.Ieee.{fin, ofBits}
 use lib.ListN.{length, set, length-set}
 use borrow.Author.Needs.{needs}
 use Rattle.graph.proofs.Fill.{front, front-none, front-more, front-all}
@@ -30,19 +33,13 @@ loop-less : tie.Need-loop-less Inv-loop μ-loop
 loop-less c = omega (arith, c .before .loop .inv .1)
 
 loop-again : tie.Need-loop-again Inv-loop μ-loop
-loop-again c =
-    let loop = c .before .loop in
-    let args = c .before .before .args in
-    (omega (arith, loop .inv .1), length-set (loop .table) (loop .i) _ ∙ loop .inv .1, ap (λ l. set l (loop .i) (args .x)) (loop .inv .2) ∙ front-more (args .x) (loop .i) (args .table .now) (omega (arith, loop .inv .1)))
+loop-again c = (omega (arith, c .before .loop .inv .1), length-set (c .before .loop .table) (c .before .loop .i) _ ∙ c .before .loop .inv .1, ap (λ l. set l (c .before .loop .i) (c .before .before .args .x)) (c .before .loop .inv .2) ∙ front-more (c .before .before .args .x) (c .before .loop .i) (c .before .before .args .table .now) (omega (arith, c .before .loop .inv .1)))
 
 same-length : tie.Need-same-length Inv-loop μ-loop
 same-length c = c .before .loop .inv .1
 
 returns : tie.Need-returns Inv-loop μ-loop
-returns c =
-    let loop = c .before .loop in
-    let args = c .before .before .args in
-    loop .inv .2 ∙ front-all (args .x) (loop .i) (args .table .now) (omega (arith, loop .inv .0, loop .inv .1))
+returns c = c .before .loop .inv .2 ∙ front-all (c .before .before .args .x) (c .before .loop .i) (c .before .before .args .table .now) (omega (arith, c .before .loop .inv .0, c .before .loop .inv .1))
 
 pub fill-u32-spec : {M : Type 1} → statement M
 fill-u32-spec =

@@ -1,7 +1,8 @@
 -- `graph::find_edge`: what is found from this place of the chain on is what is found at all.
-use Prim.Native.Nat.{_-_}
-use mathlib.Core.Path.{_≡_, sym, _∙_}
+use Prim.Native.Nat.{_-_, _*_, _+_, _≤_, _<_}
+use mathlib.Core.Path.{_≡_, refl, sym, ap, _∙_}
 use native.Mathlib.Omega.{arith}
+use lib.ListN.{length}
 use borrow.Author.Needs.{needs}
 use Rattle.graph.specs.Chains.{lastEnds}
 use Rattle.graph.proofs.Chains.{onward, Link, fuel, start-link, start-onward, link-below, next-link, next-less, onward-found, onward-next, onward-end}
@@ -28,55 +29,37 @@ loop-holds c =
 
 cast-e : tie.Need-cast-e Inv-loop μ-loop
 cast-e c =
-    let args = c .before .before .before .before .before .before .before .args in
-    let pre = c .before .before .before .before .before .before .before .pre in
-    let loop = c .before .loop in
-    let here = link-below (args .count) (args .edge-u .now) (args .edge-v .now) (args .first .now) (args .next .now) (pre .4) (args .u) (loop .at) (loop .inv .0) (c .loop-test .taken) in
-    omega (arith, here .0, pre .1)
+    let here = link-below (c .before .before .before .before .before .before .before .args .count) (c .before .before .before .before .before .before .before .args .edge-u .now) (c .before .before .before .before .before .before .before .args .edge-v .now) (c .before .before .before .before .before .before .before .args .first .now) (c .before .before .before .before .before .before .before .args .next .now) (c .before .before .before .before .before .before .before .pre .4) (c .before .before .before .before .before .before .before .args .u) (c .before .loop .at) (c .before .loop .inv .0) (c .loop-test .taken) in
+    omega (arith, here .0, c .before .before .before .before .before .before .before .pre .1)
 
 mul-at-2 : tie.Need-mul-at-2 Inv-loop μ-loop
 mul-at-2 c =
-    let args = c .before .before .before .before .before .before .before .args in
-    let pre = c .before .before .before .before .before .before .before .pre in
-    let loop = c .before .loop in
-    let here = link-below (args .count) (args .edge-u .now) (args .edge-v .now) (args .first .now) (args .next .now) (pre .4) (args .u) (loop .at) (loop .inv .0) (c .loop-test .taken) in
-    omega (arith, here .0, pre .1)
+    let here = link-below (c .before .before .before .before .before .before .before .args .count) (c .before .before .before .before .before .before .before .args .edge-u .now) (c .before .before .before .before .before .before .before .args .edge-v .now) (c .before .before .before .before .before .before .before .args .first .now) (c .before .before .before .before .before .before .before .args .next .now) (c .before .before .before .before .before .before .before .pre .4) (c .before .before .before .before .before .before .before .args .u) (c .before .loop .at) (c .before .loop .inv .0) (c .loop-test .taken) in
+    omega (arith, here .0, c .before .before .before .before .before .before .before .pre .1)
 
 shared-slice-read-at-2 : tie.Need-shared-slice-read-at-2 Inv-loop μ-loop
 shared-slice-read-at-2 c =
-    let args = c .before .before .before .before .before .before .before .before .args in
-    let loop = c .before .before .loop in
-    let here = link-below (args .count) (args .edge-u .now) (args .edge-v .now) (args .first .now) (args .next .now) (c .before .before .before .before .before .before .before .before .pre .4) (args .u) (loop .at) (loop .inv .0) (c .before .loop-test .taken) in
+    let here = link-below (c .before .before .before .before .before .before .before .before .args .count) (c .before .before .before .before .before .before .before .before .args .edge-u .now) (c .before .before .before .before .before .before .before .before .args .edge-v .now) (c .before .before .before .before .before .before .before .before .args .first .now) (c .before .before .before .before .before .before .before .before .args .next .now) (c .before .before .before .before .before .before .before .before .pre .4) (c .before .before .before .before .before .before .before .before .args .u) (c .before .before .loop .at) (c .before .before .loop .inv .0) (c .before .loop-test .taken) in
     omega (arith, here .0)
 
 mul-same-ends : tie.Need-mul-same-ends Inv-loop μ-loop
 mul-same-ends c =
-    let args = c .before .before .before .before .before .before .before .before .args in
-    let pre = c .before .before .before .before .before .before .before .before .pre in
-    let loop = c .before .before .loop in
-    let here = link-below (args .count) (args .edge-u .now) (args .edge-v .now) (args .first .now) (args .next .now) (pre .4) (args .u) (loop .at) (loop .inv .0) (c .before .loop-test .taken) in
-    omega (arith, here .0, pre .1)
+    let here = link-below (c .before .before .before .before .before .before .before .before .args .count) (c .before .before .before .before .before .before .before .before .args .edge-u .now) (c .before .before .before .before .before .before .before .before .args .edge-v .now) (c .before .before .before .before .before .before .before .before .args .first .now) (c .before .before .before .before .before .before .before .before .args .next .now) (c .before .before .before .before .before .before .before .before .pre .4) (c .before .before .before .before .before .before .before .before .args .u) (c .before .before .loop .at) (c .before .before .loop .inv .0) (c .before .loop-test .taken) in
+    omega (arith, here .0, c .before .before .before .before .before .before .before .before .pre .1)
 
 shared-slice-read-same-ends : tie.Need-shared-slice-read-same-ends Inv-loop μ-loop
 shared-slice-read-same-ends c =
-    let args = c .before .before .before .before .before .before .before .before .before .args in
-    let loop = c .before .before .before .loop in
-    let here = link-below (args .count) (args .edge-u .now) (args .edge-v .now) (args .first .now) (args .next .now) (c .before .before .before .before .before .before .before .before .before .pre .4) (args .u) (loop .at) (loop .inv .0) (c .before .before .loop-test .taken) in
+    let here = link-below (c .before .before .before .before .before .before .before .before .before .args .count) (c .before .before .before .before .before .before .before .before .before .args .edge-u .now) (c .before .before .before .before .before .before .before .before .before .args .edge-v .now) (c .before .before .before .before .before .before .before .before .before .args .first .now) (c .before .before .before .before .before .before .before .before .before .args .next .now) (c .before .before .before .before .before .before .before .before .before .pre .4) (c .before .before .before .before .before .before .before .before .before .args .u) (c .before .before .before .loop .at) (c .before .before .before .loop .inv .0) (c .before .before .loop-test .taken) in
     omega (arith, here .0)
 
 mul-same-ends-2 : tie.Need-mul-same-ends-2 Inv-loop μ-loop
 mul-same-ends-2 c =
-    let args = c .before .before .before .before .before .before .before .before .before .args in
-    let pre = c .before .before .before .before .before .before .before .before .before .pre in
-    let loop = c .before .before .before .loop in
-    let here = link-below (args .count) (args .edge-u .now) (args .edge-v .now) (args .first .now) (args .next .now) (pre .4) (args .u) (loop .at) (loop .inv .0) (c .before .before .loop-test .taken) in
-    omega (arith, here .0, pre .1)
+    let here = link-below (c .before .before .before .before .before .before .before .before .before .args .count) (c .before .before .before .before .before .before .before .before .before .args .edge-u .now) (c .before .before .before .before .before .before .before .before .before .args .edge-v .now) (c .before .before .before .before .before .before .before .before .before .args .first .now) (c .before .before .before .before .before .before .before .before .before .args .next .now) (c .before .before .before .before .before .before .before .before .before .pre .4) (c .before .before .before .before .before .before .before .before .before .args .u) (c .before .before .before .loop .at) (c .before .before .before .loop .inv .0) (c .before .before .loop-test .taken) in
+    omega (arith, here .0, c .before .before .before .before .before .before .before .before .before .pre .1)
 
 shared-slice-read-same-ends-2 : tie.Need-shared-slice-read-same-ends-2 Inv-loop μ-loop
 shared-slice-read-same-ends-2 c =
-    let args = c .before .before .before .before .before .before .before .before .before .before .args in
-    let loop = c .before .before .before .before .loop in
-    let here = link-below (args .count) (args .edge-u .now) (args .edge-v .now) (args .first .now) (args .next .now) (c .before .before .before .before .before .before .before .before .before .before .pre .4) (args .u) (loop .at) (loop .inv .0) (c .before .before .before .loop-test .taken) in
+    let here = link-below (c .before .before .before .before .before .before .before .before .before .before .args .count) (c .before .before .before .before .before .before .before .before .before .before .args .edge-u .now) (c .before .before .before .before .before .before .before .before .before .before .args .edge-v .now) (c .before .before .before .before .before .before .before .before .before .before .args .first .now) (c .before .before .before .before .before .before .before .before .before .before .args .next .now) (c .before .before .before .before .before .before .before .before .before .before .pre .4) (c .before .before .before .before .before .before .before .before .before .before .args .u) (c .before .before .before .before .loop .at) (c .before .before .before .before .loop .inv .0) (c .before .before .before .loop-test .taken) in
     omega (arith, here .0)
 
 same-ends-requires : tie.Need-same-ends-requires Inv-loop μ-loop
@@ -109,8 +92,7 @@ loop-again c =
 returns-2 : tie.Need-returns-2 Inv-loop μ-loop
 returns-2 c =
     let args = c .before .before .before .before .before .before .before .args in
-    let loop = c .before .loop in
-    sym (onward-end (args .edge-u .now) (args .edge-v .now) (args .u) (args .v) (loop .at) (c .loop-test .left)) ∙ loop .inv .1
+    sym (onward-end (args .edge-u .now) (args .edge-v .now) (args .u) (args .v) (c .before .loop .at) (c .loop-test .left)) ∙ c .before .loop .inv .1
 
 pub find-edge-spec : {M : Type 1} → statement M
 find-edge-spec =

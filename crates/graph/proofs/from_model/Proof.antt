@@ -1,11 +1,13 @@
 -- `graph::from_model` meets its contract: a refusal leaves zero, edges leave their tables.
-use mathlib.Core.Path.{sym, ap, _∙_}
+use mathlib.Core.Path.{_≡_, refl, sym, ap, _∙_}
 use mathlib.Core.Bool.{false}
 use Prim.Native.Nat.{ℕ}
 use lib.IntN.{pos}
-use lib.Ieee.{fin}
+use lib.Ieee.{Float, fin}
 use lib.ListN.{replicate}
 use Rattle.dem.specs.Positions.{tables}
+use Rattle.dem.specs.Tables.{modelOf}
+use Rattle.graph.specs.Compile.{compile}
 use Rattle.graph.specs.Tables.{slices}
 use Rattle.graph.proofs.Answers.{zero-left, edges-left, refusal-is, outcome-refused, outcome-edges}
 use borrow.Author.Needs.{needs}
@@ -46,8 +48,8 @@ returns : tie.Need-returns
 returns c =
     let args = c .before .before .before .before .before .before .before .before .before .before .before .before .before .before .before .before .before .before .before .before .before .before .before .before .before .before .before .before .before .before .before .before .before .before .before .before .before .before .args in
     let refuse = c .before .before .before .before .before .before .before .before .refuse in
-    let t = tables (args .probability .now) (args .detector-counts .now) (args .observable-counts .now) (args .component-counts .now) (args .component-detectors .now) (args .component-observables .now) (args .entries .now) in
-    let out = slices (args .edge-u .now) (args .edge-v .now) (args .edge-weight .now) (args .edge-obs .now) (args .edge-p .now) in
+    let t = (tables (args .probability .now) (args .detector-counts .now) (args .observable-counts .now) (args .component-counts .now) (args .component-detectors .now) (args .component-observables .now) (args .entries .now)) in
+    let out = (slices (args .edge-u .now) (args .edge-v .now) (args .edge-weight .now) (args .edge-obs .now) (args .edge-p .now)) in
     zero-left (args .detectors) (args .observables) out _ _ _ _ (outcome-refused (args .detectors) (args .observables) (args .mechanisms) t out (args .first .now) (args .next .now) _ _ (c .before .before .before .before .before .before .before .before .before .before .before .before .before .before .before .before .check-slices .ensures) (c .before .before .before .before .before .before .before .before .before .before .before .before .before .before .checked .given .1)) (refuse .ensures .0) (refuse .ensures .1) (refuse .ensures .2) (refuse .ensures .3) (refuse .ensures .4)
 
 enum-told : tie.Need-enum-told
@@ -88,9 +90,9 @@ returns-2 c =
     let args = c .before .before .before .before .before .before .before .before .before .before .before .before .before .before .before .before .before .before .before .before .before .before .before .before .before .before .before .before .before .before .before .before .before .before .before .before .before .before .before .before .before .before .before .before .before .before .before .before .before .before .before .before .before .before .before .before .before .before .before .before .before .before .args in
     let join-all = c .before .before .before .before .before .before .before .before .before .before .before .before .before .before .before .before .before .before .before .before .before .before .before .before .before .before .before .before .before .before .join-all in
     let refuse2 = c .before .before .before .before .before .before .before .before .refuse2 in
-    let t = tables (args .probability .now) (args .detector-counts .now) (args .observable-counts .now) (args .component-counts .now) (args .component-detectors .now) (args .component-observables .now) (args .entries .now) in
-    let out = slices (args .edge-u .now) (args .edge-v .now) (args .edge-weight .now) (args .edge-obs .now) (args .edge-p .now) in
-    let edges = outcome-edges (args .detectors) (args .observables) (args .mechanisms) t out (args .first .now) (args .next .now) _ (c .before .before .before .before .before .before .before .before .before .before .before .before .before .before .before .before .before .before .before .before .before .before .before .before .before .before .before .before .before .before .before .before .before .before .before .before .before .before .before .before .check-slices .ensures) (c .before .before .before .before .before .before .before .before .before .before .before .before .before .before .before .before .before .before .before .before .before .before .before .before .before .before .before .before .before .before .before .before .before .before .before .before .before .before .enum-told .given .1) in
+    let t = (tables (args .probability .now) (args .detector-counts .now) (args .observable-counts .now) (args .component-counts .now) (args .component-detectors .now) (args .component-observables .now) (args .entries .now)) in
+    let out = (slices (args .edge-u .now) (args .edge-v .now) (args .edge-weight .now) (args .edge-obs .now) (args .edge-p .now)) in
+    let edges = (outcome-edges (args .detectors) (args .observables) (args .mechanisms) t out (args .first .now) (args .next .now) _ (c .before .before .before .before .before .before .before .before .before .before .before .before .before .before .before .before .before .before .before .before .before .before .before .before .before .before .before .before .before .before .before .before .before .before .before .before .before .before .before .before .check-slices .ensures) (c .before .before .before .before .before .before .before .before .before .before .before .before .before .before .before .before .before .before .before .before .before .before .before .before .before .before .before .before .before .before .before .before .before .before .before .before .before .before .enum-told .given .1)) in
     zero-left (args .detectors) (args .observables) out _ _ _ _ (edges ∙ refusal-is (args .detectors) (args .observables) out _ _ _ _ (c .before .before .before .before .before .before .before .before .before .before .before .before .before .before .compiled .given .1) (join-all .ensures)) (refuse2 .ensures .0) (refuse2 .ensures .1 ∙ ap (λ (n : ℕ). replicate n 0) (join-all .kept .1 .1 .1 .1 .1 .1 .1 .1 .1 .1 .0)) (refuse2 .ensures .2 ∙ ap (λ (n : ℕ). replicate n 0) (join-all .kept .1 .1 .1 .1 .1 .1 .1 .1 .1 .1 .1 .0)) (refuse2 .ensures .3 ∙ ap (λ (n : ℕ). replicate n (fin false 0 (pos 0))) (join-all .kept .1 .1 .1 .1 .1 .1 .1 .1 .1 .1 .1 .1 .0)) (refuse2 .ensures .4 ∙ ap (λ (n : ℕ). replicate n 0) (join-all .kept .1 .1 .1 .1 .1 .1 .1 .1 .1 .1 .1 .1 .1 .0))
 
 enum-told-2 : tie.Need-enum-told-2
@@ -120,9 +122,9 @@ same-length-21 c = search needs
 returns-3 : tie.Need-returns-3
 returns-3 c =
     let args = c .before .before .before .before .before .before .before .before .before .before .before .before .before .before .before .before .before .before .before .before .before .before .before .before .before .before .before .before .before .before .before .before .before .before .before .before .before .before .before .before .before .before .before .before .before .before .before .before .args in
-    let t = tables (args .probability .now) (args .detector-counts .now) (args .observable-counts .now) (args .component-counts .now) (args .component-detectors .now) (args .component-observables .now) (args .entries .now) in
-    let out = slices (args .edge-u .now) (args .edge-v .now) (args .edge-weight .now) (args .edge-obs .now) (args .edge-p .now) in
-    let edges = outcome-edges (args .detectors) (args .observables) (args .mechanisms) t out (args .first .now) (args .next .now) _ (c .before .before .before .before .before .before .before .before .before .before .before .before .before .before .before .before .before .before .before .before .before .before .before .before .before .before .check-slices .ensures) (c .before .before .before .before .before .before .before .before .before .before .before .before .before .before .before .before .before .before .before .before .before .before .before .before .enum-told .given .1) in
+    let t = (tables (args .probability .now) (args .detector-counts .now) (args .observable-counts .now) (args .component-counts .now) (args .component-detectors .now) (args .component-observables .now) (args .entries .now)) in
+    let out = (slices (args .edge-u .now) (args .edge-v .now) (args .edge-weight .now) (args .edge-obs .now) (args .edge-p .now)) in
+    let edges = (outcome-edges (args .detectors) (args .observables) (args .mechanisms) t out (args .first .now) (args .next .now) _ (c .before .before .before .before .before .before .before .before .before .before .before .before .before .before .before .before .before .before .before .before .before .before .before .before .before .before .check-slices .ensures) (c .before .before .before .before .before .before .before .before .before .before .before .before .before .before .before .before .before .before .before .before .before .before .before .before .enum-told .given .1)) in
     rw (edges) (edges-left (args .detectors) (args .observables) out _ _ _ _ (c .enum-told2 .given .1) (c .before .before .before .before .before .before .before .before .before .before .before .before .before .before .before .before .join-all .ensures))
 
 pub from-model-spec : {M : Type 1} → statement M

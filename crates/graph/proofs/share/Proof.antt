@@ -1,44 +1,40 @@
 -- `graph::share` meets its contract: replaced, kept or appended.
-use mathlib.Core.Path.{sym, _∙_}
+use Prim.Native.Nat.{ℕ, _+_, _*_, _≤_, _<_}
+use mathlib.Core.Path.{_≡_, refl, sym, ap, _∙_}
 use native.Mathlib.Omega.{arith}
-use Rattle.graph.specs.Tables.{slices, edgeWith}
+use lib.ListN.{length}
+use Rattle.graph.specs.Tables.{Slices, slices, edgeWith}
 use Rattle.graph.proofs.Sharing.{replaced, kept, appended, found-at, row-below}
 use borrow.Author.Needs.{needs}
 use Rattle.graph.proofs.share.Statement.{statement}
 use Rattle.graph.proofs.share.Tie as tie
 
 find-edge-requires : tie.Need-find-edge-requires
-find-edge-requires c κs =
-    let pre = c .before .before .before .before .before .before .before .before .before .before .before .before .pre in
-    (pre .0, omega (arith, pre .2), omega (arith, pre .2), omega (arith, pre .2), pre .3)
+find-edge-requires c κs = (c .before .before .before .before .before .before .before .before .before .before .before .before .pre .0, omega (arith, c .before .before .before .before .before .before .before .before .before .before .before .before .pre .2), omega (arith, c .before .before .before .before .before .before .before .before .before .before .before .before .pre .2), omega (arith, c .before .before .before .before .before .before .before .before .before .before .before .before .pre .2), c .before .before .before .before .before .before .before .before .before .before .before .before .pre .3)
 
 enum-known-found : tie.Need-enum-known-found
 enum-known-found c = search needs
 
 mul-if1 : tie.Need-mul-if1
 mul-if1 c =
-    let args = c .before .before .before .before .before .before .before .before .before .before .before .before .before .before .before .before .args in
     let space = c .before .before .before .before .before .before .before .before .before .before .before .before .before .before .before .before .pre .2 in
-    let isAt = sym (c .before .before .before .find-edge .ensures) ∙ c .before .found .given .1 in
-    let below = found-at (args .edge-u .now) (args .edge-v .now) (args .u) (args .v) (args .count) _ isAt .0 in
+    let isAt = (sym (c .before .before .before .find-edge .ensures) ∙ c .before .found .given .1) in
+    let below = (found-at (c .before .before .before .before .before .before .before .before .before .before .before .before .before .before .before .before .args .edge-u .now) (c .before .before .before .before .before .before .before .before .before .before .before .before .before .before .before .before .args .edge-v .now) (c .before .before .before .before .before .before .before .before .before .before .before .before .before .before .before .before .args .u) (c .before .before .before .before .before .before .before .before .before .before .before .before .before .before .before .before .args .v) (c .before .before .before .before .before .before .before .before .before .before .before .before .before .before .before .before .args .count) _ isAt .0) in
     omega (arith, below, space)
 
 slice-read-if1 : tie.Need-slice-read-if1
 slice-read-if1 c =
-    let args = c .before .before .before .before .before .before .before .before .before .before .before .before .before .before .before .before .before .args in
     let space = c .before .before .before .before .before .before .before .before .before .before .before .before .before .before .before .before .before .pre .2 in
-    let isAt = sym (c .before .before .before .before .find-edge .ensures) ∙ c .before .before .found .given .1 in
-    let below = found-at (args .edge-u .now) (args .edge-v .now) (args .u) (args .v) (args .count) _ isAt .0 in
+    let isAt = (sym (c .before .before .before .before .find-edge .ensures) ∙ c .before .before .found .given .1) in
+    let below = (found-at (c .before .before .before .before .before .before .before .before .before .before .before .before .before .before .before .before .before .args .edge-u .now) (c .before .before .before .before .before .before .before .before .before .before .before .before .before .before .before .before .before .args .edge-v .now) (c .before .before .before .before .before .before .before .before .before .before .before .before .before .before .before .before .before .args .u) (c .before .before .before .before .before .before .before .before .before .before .before .before .before .before .before .before .before .args .v) (c .before .before .before .before .before .before .before .before .before .before .before .before .before .before .before .before .before .args .count) _ isAt .0) in
     omega (arith, below, space)
 
 write-edge-requires : tie.Need-write-edge-requires
 write-edge-requires c κs =
-    let pre = c .before .before .before .before .before .before .before .before .before .before .before .before .before .before .before .before .before .before .before .before .before .before .before .pre in
-    let args = c .before .before .before .before .before .before .before .before .before .before .before .before .before .before .before .before .before .before .before .before .before .before .before .args in
-    let space = pre .2 in
-    let isAt = sym (c .before .before .before .before .before .before .before .before .before .before .find-edge .ensures) ∙ c .before .before .before .before .before .before .before .before .found .given .1 in
-    let below = found-at (args .edge-u .now) (args .edge-v .now) (args .u) (args .v) (args .count) _ isAt .0 in
-    (space .observables, pre .1, omega (arith, below, space), omega (arith, below, space), omega (arith, below, space), omega (arith, below, space), row-below _ (args .count) (args .observables) _ below (space .rows), omega (arith, below, space))
+    let space = c .before .before .before .before .before .before .before .before .before .before .before .before .before .before .before .before .before .before .before .before .before .before .before .pre .2 in
+    let isAt = (sym (c .before .before .before .before .before .before .before .before .before .before .find-edge .ensures) ∙ c .before .before .before .before .before .before .before .before .found .given .1) in
+    let below = (found-at (c .before .before .before .before .before .before .before .before .before .before .before .before .before .before .before .before .before .before .before .before .before .before .before .args .edge-u .now) (c .before .before .before .before .before .before .before .before .before .before .before .before .before .before .before .before .before .before .before .before .before .before .before .args .edge-v .now) (c .before .before .before .before .before .before .before .before .before .before .before .before .before .before .before .before .before .before .before .before .before .before .before .args .u) (c .before .before .before .before .before .before .before .before .before .before .before .before .before .before .before .before .before .before .before .before .before .before .before .args .v) (c .before .before .before .before .before .before .before .before .before .before .before .before .before .before .before .before .before .before .before .before .before .before .before .args .count) _ isAt .0) in
+    (space .observables, c .before .before .before .before .before .before .before .before .before .before .before .before .before .before .before .before .before .before .before .before .before .before .before .pre .1, omega (arith, below, space), omega (arith, below, space), omega (arith, below, space), omega (arith, below, space), row-below _ (c .before .before .before .before .before .before .before .before .before .before .before .before .before .before .before .before .before .before .before .before .before .before .before .args .count) (c .before .before .before .before .before .before .before .before .before .before .before .before .before .before .before .before .before .before .before .before .before .before .before .args .observables) _ below (space .rows), omega (arith, below, space))
 
 same-length : tie.Need-same-length
 same-length c = search needs
@@ -65,10 +61,10 @@ returns : tie.Need-returns
 returns c =
     let args = c .before .before .before .before .before .before .before .before .before .before .before .before .before .before .before .before .before .before .before .before .before .before .before .before .before .before .before .before .before .before .before .before .before .before .args in
     let pre = c .before .before .before .before .before .before .before .before .before .before .before .before .before .before .before .before .before .before .before .before .before .before .before .before .before .before .before .before .before .before .before .before .before .before .pre in
-    let t = slices (args .edge-u .now) (args .edge-v .now) (args .edge-weight .now) (args .edge-obs .now) (args .edge-p .now) in
-    let new = edgeWith (args .u) (args .v) (args .p) (args .list .now) in
+    let t = (slices (args .edge-u .now) (args .edge-v .now) (args .edge-weight .now) (args .edge-obs .now) (args .edge-p .now)) in
+    let new = (edgeWith (args .u) (args .v) (args .p) (args .list .now)) in
     let space = pre .2 in
-    let isAt = sym (c .before .before .before .before .before .before .before .before .before .before .before .before .before .before .before .before .before .before .before .before .before .find-edge .ensures) ∙ c .before .before .before .before .before .before .before .before .before .before .before .before .before .before .before .before .before .before .before .found .given .1 in
+    let isAt = (sym (c .before .before .before .before .before .before .before .before .before .before .before .before .before .before .before .before .before .before .before .before .before .find-edge .ensures) ∙ c .before .before .before .before .before .before .before .before .before .before .before .before .before .before .before .before .before .before .before .found .given .1) in
     replaced (args .observables) (args .count) new t (args .first .now) (args .next .now) (pre .3) _ _ (space) isAt (c .before .before .before .before .before .before .before .before .before .before .before .before .before .before .before .before .if1 .taken) (c .before .before .before .before .before .before .before .before .before .before .write-edge .ensures)
 
 same-length-8 : tie.Need-same-length-8
@@ -86,9 +82,9 @@ same-length-11 c = search needs
 returns-2 : tie.Need-returns-2
 returns-2 c =
     let args = c .before .before .before .before .before .before .before .before .before .before .before .before .before .before .before .before .before .before .args in
-    let t = slices (args .edge-u .now) (args .edge-v .now) (args .edge-weight .now) (args .edge-obs .now) (args .edge-p .now) in
-    let new = edgeWith (args .u) (args .v) (args .p) (args .list .now) in
-    let isAt = sym (c .before .before .before .before .before .find-edge .ensures) ∙ c .before .before .before .found .given .1 in
+    let t = (slices (args .edge-u .now) (args .edge-v .now) (args .edge-weight .now) (args .edge-obs .now) (args .edge-p .now)) in
+    let new = (edgeWith (args .u) (args .v) (args .p) (args .list .now)) in
+    let isAt = (sym (c .before .before .before .before .before .find-edge .ensures) ∙ c .before .before .before .found .given .1) in
     kept (args .observables) (args .count) new t (args .first .now) (args .next .now) (c .before .before .before .before .before .before .before .before .before .before .before .before .before .before .before .before .before .before .pre .3) _ isAt (c .if1 .left)
 
 enum-told : tie.Need-enum-told
@@ -157,8 +153,8 @@ returns-3 : tie.Need-returns-3
 returns-3 c =
     let args = c .before .before .before .before .before .before .before .before .before .before .before .before .before .before .before .before .before .before .before .before .before .before .before .before .before .before .before .before .before .before .before .before .args in
     let pre = c .before .before .before .before .before .before .before .before .before .before .before .before .before .before .before .before .before .before .before .before .before .before .before .before .before .before .before .before .before .before .before .before .pre in
-    let t = slices (args .edge-u .now) (args .edge-v .now) (args .edge-weight .now) (args .edge-obs .now) (args .edge-p .now) in
-    let new = edgeWith (args .u) (args .v) (args .p) (args .list .now) in
+    let t = (slices (args .edge-u .now) (args .edge-v .now) (args .edge-weight .now) (args .edge-obs .now) (args .edge-p .now)) in
+    let new = (edgeWith (args .u) (args .v) (args .p) (args .list .now)) in
     let space = pre .2 in
     appended (args .observables) (args .count) new t (args .first .now) (args .next .now) (pre .3) _ (space) (pre .0) (sym (c .before .before .before .before .before .before .before .before .before .before .before .before .before .before .before .before .before .before .before .find-edge .ensures) ∙ c .before .before .before .before .before .before .before .before .before .before .before .before .before .before .before .before .before .enum-told .given .1) (c .before .before .before .before .before .before .before .before .before .before .before .write-edge2 .ensures)
 

@@ -1,9 +1,10 @@
 -- `graph::write_edge` meets its contract: a store in each table, and the row as it is lent.
-use Prim.Native.Nat.{_-_, _≤_}
-use mathlib.Core.Path.{refl, ap}
+use Prim.Native.Nat.{ℕ, _+_, _*_, _-_, _≤_, _<_}
+use mathlib.Core.Path.{_≡_, refl, sym, ap, _∙_}
+use mathlib.Core.List.{List}
 use native.Mathlib.Omega.{arith}
 use native.Mathlib.Nat.{mul-le-mul}
-use lib.ListN.{set}
+use lib.ListN.{length, set}
 use Rattle.bits.specs.Rows.{words}
 use Rattle.graph.proofs.Slices.{same-slices, put-is}
 use borrow.Author.Needs.{needs}
@@ -42,21 +43,15 @@ words-requires c κs = search needs
 
 mul-from : tie.Need-mul-from
 unfolding words
-mul-from c =
-    let pre = c .before .before .before .before .before .before .before .before .pre in
-    let k : c .words .result ≤ 2 = omega (arith, c .words .ensures, pre .0) in let l : c .before .before .before .before .before .before .before .before .args .e ≤ 16384 = omega (arith, pre .2) in omega (arith, mul-le-mul l k)
+mul-from c = let k : c .words .result ≤ 2 = omega (arith, c .words .ensures, c .before .before .before .before .before .before .before .before .pre .0) in let l : c .before .before .before .before .before .before .before .before .args .e ≤ 16384 = omega (arith, c .before .before .before .before .before .before .before .before .pre .2) in omega (arith, mul-le-mul l k)
 
 add-to : tie.Need-add-to
 unfolding words
-add-to c =
-    let pre = c .before .before .before .before .before .before .before .before .pre in
-    let k : c .words .result ≤ 2 = omega (arith, c .words .ensures, pre .0) in let l : c .before .before .before .before .before .before .before .before .args .e ≤ 16384 = omega (arith, pre .2) in omega (arith, mul-le-mul l k)
+add-to c = let k : c .words .result ≤ 2 = omega (arith, c .words .ensures, c .before .before .before .before .before .before .before .before .pre .0) in let l : c .before .before .before .before .before .before .before .before .args .e ≤ 16384 = omega (arith, c .before .before .before .before .before .before .before .before .pre .2) in omega (arith, mul-le-mul l k)
 
 mul-write-row : tie.Need-mul-write-row
 unfolding words
-mul-write-row c =
-    let pre = c .before .before .before .before .before .before .before .before .pre in
-    let k : c .words .result ≤ 2 = omega (arith, c .words .ensures, pre .0) in let l : c .before .before .before .before .before .before .before .before .args .e ≤ 16384 = omega (arith, pre .2) in omega (arith, mul-le-mul l k)
+mul-write-row c = let k : c .words .result ≤ 2 = omega (arith, c .words .ensures, c .before .before .before .before .before .before .before .before .pre .0) in let l : c .before .before .before .before .before .before .before .before .args .e ≤ 16384 = omega (arith, c .before .before .before .before .before .before .before .before .pre .2) in omega (arith, mul-le-mul l k)
 
 sub-write-row : tie.Need-sub-write-row
 sub-write-row c = search needs
@@ -88,8 +83,7 @@ same-length-5 c = search needs
 returns : tie.Need-returns
 returns c =
     let args = c .before .before .before .before .before .before .before .before .before .before .before .before .args in
-    let words′ = c .before .before .before .before .words in
-    same-slices refl refl (ap (set (args .edge-weight .now) (args .e)) (c .before .before .before .before .before .weight .ensures)) (put-is (args .e) (words′ .result) (words (args .observables)) (args .edge-obs .now) _ _ (words′ .ensures) (c .before .before .write-row .ensures)) refl
+    same-slices refl refl (ap (set (args .edge-weight .now) (args .e)) (c .before .before .before .before .before .weight .ensures)) (put-is (args .e) (c .before .before .before .before .words .result) (words (args .observables)) (args .edge-obs .now) _ _ (c .before .before .before .before .words .ensures) (c .before .before .write-row .ensures)) refl
 
 pub write-edge-spec : {M : Type 1} → statement M
 write-edge-spec =

@@ -1,11 +1,11 @@
 -- `graph::write_row`: the bits still to set, set here, give what all give in the zero row.
-use Prim.Native.Nat.{ℕ, _+_, _-_}
+use Prim.Native.Nat.{ℕ, _+_, _-_, _/_, _≤_, _<_}
 use mathlib.Core.Path.{_≡_, refl, sym, ap, _∙_}
 use mathlib.Core.List.{List}
 use native.Mathlib.Omega.{arith}
-use lib.ListN.{length, drop, replicate}
+use lib.ListN.{length, drop, getD, replicate}
 use borrow.Author.Needs.{needs}
-use Rattle.graph.proofs.Rows.{setAll, set-turn, set-end, word-below, row-is}
+use Rattle.graph.proofs.Rows.{setAll, set-turn, set-end, length-set-bit, word-below, row-is}
 use Rattle.graph.proofs.write_row.Statement.{statement}
 use Rattle.graph.proofs.write_row.Tie as tie
 
@@ -31,10 +31,7 @@ cast-set : tie.Need-cast-set Inv-loop μ-loop
 cast-set c = omega (arith, c .before .before .before .before .before .before .before .before .before .shared-slice-known .given (c .before .before .before .loop .i))
 
 set-requires : tie.Need-set-requires Inv-loop μ-loop
-set-requires c κs =
-    let args = c .before .before .before .before .before .before .before .before .before .before .args in
-    let loop = c .before .before .before .loop in
-    omega (arith, word-below (args .observables) (args .list .now) (loop .i) (c .before .before .before .before .before .before .before .before .before .before .pre .1) (c .before .before .loop-test .taken), loop .inv .0, c .before .before .before .before .before .before .zero-u64 .kept .0)
+set-requires c κs = omega (arith, word-below (c .before .before .before .before .before .before .before .before .before .before .args .observables) (c .before .before .before .before .before .before .before .before .before .before .args .list .now) (c .before .before .before .loop .i) (c .before .before .before .before .before .before .before .before .before .before .pre .1) (c .before .before .loop-test .taken), c .before .before .before .loop .inv .0, c .before .before .before .before .before .before .zero-u64 .kept .0)
 
 add-i : tie.Need-add-i Inv-loop μ-loop
 add-i c = search needs
@@ -54,10 +51,9 @@ same-length c = c .before .loop .inv .0 ∙ c .before .before .before .before .z
 
 returns : tie.Need-returns Inv-loop μ-loop
 returns c =
-    let loop = c .before .loop in
     let args = c .before .before .before .before .before .before .before .before .args in
     let pre = c .before .before .before .before .before .before .before .before .pre in
-    sym (set-end (loop .row) (args .list .now) (loop .i) (c .loop-test .left)) ∙ loop .inv .1 ∙ ap (λ (r : List ℕ). setAll r (args .list .now)) (c .before .before .before .before .zero-u64 .ensures ∙ ap (λ (n : ℕ). replicate n 0) (pre .0)) ∙ row-is (args .observables) (args .list .now) (pre .1)
+    sym (set-end (c .before .loop .row) (args .list .now) (c .before .loop .i) (c .loop-test .left)) ∙ c .before .loop .inv .1 ∙ ap (λ (r : List ℕ). setAll r (args .list .now)) (c .before .before .before .before .zero-u64 .ensures ∙ ap (λ (n : ℕ). replicate n 0) (pre .0)) ∙ row-is (args .observables) (args .list .now) (pre .1)
 
 pub write-row-spec : {M : Type 1} → statement M
 write-row-spec =

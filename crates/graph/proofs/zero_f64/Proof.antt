@@ -34,17 +34,13 @@ loop-less c = omega (arith, c .before .loop .inv .1)
 
 loop-again : tie.Need-loop-again Inv-loop μ-loop
 unfolding ofBits
-loop-again c =
-    let loop = c .before .loop in
-    (omega (arith, loop .inv .1), length-set (loop .table) (loop .i) _ ∙ loop .inv .1, ap (λ l. set l (loop .i) (fin false 0 (pos 0))) (loop .inv .2) ∙ front-more (fin false 0 (pos 0)) (loop .i) (c .before .before .args .table .now) (omega (arith, loop .inv .1)))
+loop-again c = (omega (arith, c .before .loop .inv .1), length-set (c .before .loop .table) (c .before .loop .i) _ ∙ c .before .loop .inv .1, ap (λ l. set l (c .before .loop .i) (fin false 0 (pos 0))) (c .before .loop .inv .2) ∙ front-more (fin false 0 (pos 0)) (c .before .loop .i) (c .before .before .args .table .now) (omega (arith, c .before .loop .inv .1)))
 
 same-length : tie.Need-same-length Inv-loop μ-loop
 same-length c = c .before .loop .inv .1
 
 returns : tie.Need-returns Inv-loop μ-loop
-returns c =
-    let loop = c .before .loop in
-    loop .inv .2 ∙ front-all (fin false 0 (pos 0)) (loop .i) (c .before .before .args .table .now) (omega (arith, loop .inv .0, loop .inv .1))
+returns c = c .before .loop .inv .2 ∙ front-all (fin false 0 (pos 0)) (c .before .loop .i) (c .before .before .args .table .now) (omega (arith, c .before .loop .inv .0, c .before .loop .inv .1))
 
 pub zero-f64-spec : {M : Type 1} → statement M
 zero-f64-spec =
