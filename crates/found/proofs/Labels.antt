@@ -11,12 +11,9 @@ use borrow.Author.Tests.{eqb-true, eqb-false, leb-true, leb-false}
 use Rattle.lists.specs.Lists.{member}
 use Rattle.steps.specs.Graph.{Graph, Ends, inner, outer, isPair}
 use Rattle.steps.specs.Growth.{merge, mergeAll}
-use Rattle.steps.specs.Laws.{Linked}
+pub use Rattle.found.specs.Labels.{name, Labels}
 use Rattle.lists.proofs.Truth.{case-of, clash, or-cases, or-intro, same-eqb}
 use Rattle.lists.proofs.Members.{getD-any}
-
-abbrev pub name : List ℕ → ℕ → ℕ
-name ls d = getD ls d d
 
 -- ---- the name that x has once a and b are one
 
@@ -75,23 +72,17 @@ ren-const c a b x p = case-of (eqb x (max a b))
 -- ---- labels
 
 module _ (g : Graph) where
-  pub record Labels (sat : List Bool) (ls : List ℕ) : Type 0 where
-    pub sizes : length ls ≡ g .detectors
-    pub low : (d : ℕ) → d < g .detectors → name ls d ≤ d
-    pub root : (d : ℕ) → d < g .detectors → name ls (name ls d) ≡ name ls d
-    pub linked : (d : ℕ) → d < g .detectors → Linked g sat (name ls d) d
-
   abbrev pub Keeps : List ℕ → List ℕ → Type 0
   Keeps ls ms = (d c : ℕ) → d < g .detectors → c < g .detectors → name ls d ≡ name ls c → name ms d ≡ name ms c
 
   pub record Merged (sat : List Bool) (ls ms : List ℕ) (es : List ℕ) : Type 0 where
-    pub labels : Labels sat ms
+    pub labels : Labels g sat ms
     pub keeps : Keeps ls ms
     pub joins : (e : ℕ) → member e es ≡ true → isPair g e ≡ true → name ms (inner g e) ≡ name ms (outer g e)
 
   module _ (ok : Ends g) (lit : List Bool) (sat : List Bool) where
     -- one edge
-    module _ (ls : List ℕ) (k : Labels sat ls) (e : ℕ) (h : e < length (g .edge-u)) (s : getD sat e false ≡ true) where
+    module _ (ls : List ℕ) (k : Labels g sat ls) (e : ℕ) (h : e < length (g .edge-u)) (s : getD sat e false ≡ true) where
       pair-name : isPair g e ≡ true → (d : ℕ) → d < g .detectors → name (merge g lit ls e) d ≡ ren (name ls (inner g e)) (name ls (outer g e)) (name ls d)
       unfolding merge ren
       pair-name t d l =
@@ -106,7 +97,7 @@ module _ (g : Graph) where
       unfolding merge
       pair-size t = rw t (length-map ls (λ x. cond (eqb x (max (name ls (inner g e)) (name ls (outer g e)))) (min (name ls (inner g e)) (name ls (outer g e))) x) ∙ k .sizes)
 
-      pair-labels : isPair g e ≡ true → Labels sat (merge g lit ls e)
+      pair-labels : isPair g e ≡ true → Labels g sat (merge g lit ls e)
       pair-labels t =
           let i = ok .inside e h in
           let o = ok .paired e h t .1 in
@@ -121,7 +112,7 @@ module _ (g : Graph) where
             linked = λ d l c q. rw (pair-name t d l) (ren-const c a b (name ls d) (k .linked (inner g e) i c q ∙ q e h s t ∙ sym (k .linked (outer g e) o c q)) ∙ k .linked d l c q);
           }
 
-      merge-labels : Labels sat (merge g lit ls e)
+      merge-labels : Labels g sat (merge g lit ls e)
       merge-labels = case-of (isPair g e) pair-labels (λ f. rw (single-name f) k)
 
       merge-keeps : Keeps ls (merge g lit ls e)
@@ -136,7 +127,7 @@ module _ (g : Graph) where
           pair-name t (inner g e) (ok .inside e h) ∙ ren-left a b ∙ sym (pair-name t (outer g e) (ok .paired e h t .1) ∙ ren-right a b)
 
     -- all of a list
-    pub merge-all : (es : List ℕ) (ls : List ℕ) → Labels sat ls → ((e : ℕ) → member e es ≡ true → (e < length (g .edge-u)) × (getD sat e false ≡ true))
+    pub merge-all : (es : List ℕ) (ls : List ℕ) → Labels g sat ls → ((e : ℕ) → member e es ≡ true → (e < length (g .edge-u)) × (getD sat e false ≡ true))
         → Merged sat ls (mergeAll g lit ls es) es
     unfolding mergeAll member
     merge-all [] ls k h = record { labels = k; keeps = λ d c l m p. p; joins = λ e m. clash m refl }

@@ -22,3 +22,4 @@ pub mod Found
 pub mod Floats
 pub mod Least
 pub mod GrowthLaws
+pub mod SameEnds

@@ -8,6 +8,7 @@ use mathlib.Core.Bool.{Bool, true, false}
 use lib.Dec.{ltb}
 use lib.ListN.{length, getD, set, replicate, List·getD-eq-default}
 use borrow.Author.Tests.{ltb-true, ltb-false}
+unfoldable pub use Rattle.lists.specs.Lists.{falses}
 use Rattle.lists.proofs.Truth.{case-of, clash}
 
 -- ---- how many are true
@@ -51,11 +52,6 @@ pub in-range : (l : List Bool) (i : ℕ) → getD l i false ≡ true → i < len
 in-range l i t = case-of (ltb i (length l)) (λ u. ltb-true i (length l) u) (λ u. clash t (List·getD-eq-default l false (ltb-false i (length l) u)))
 
 -- ---- how many are false
-
-unfoldable pub falses : List Bool → ℕ
-falses [] = 0
-falses (true ∷ l) = falses l
-falses (false ∷ l) = suc (falses l)
 
 pub falses-set : (l : List Bool) (i : ℕ) → i < length l → getD l i false ≡ false → suc (falses (set l i true)) ≡ falses l
 unfolding falses

@@ -4,3 +4,5 @@ pub mod Members
 pub mod Counts
 pub mod Singles
 pub mod Ranges
+pub mod Slices
+pub mod Filters

@@ -1,0 +1,2 @@
+-- What the contracts of the adjacency cite.
+pub mod Adjacent

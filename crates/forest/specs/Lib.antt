@@ -1,0 +1,2 @@
+-- What the contracts of the forest cite.
+pub mod Forest

@@ -1,0 +1,2 @@
+-- What the contracts of growth and peeling say of labels.
+pub mod Labels
