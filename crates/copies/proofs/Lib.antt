@@ -1,0 +1,5 @@
+pub mod Written
+pub mod Sums
+pub mod Zero
+pub mod Copying
+pub mod Kept

@@ -1,0 +1,4 @@
+pub mod Grows
+pub mod Turn
+pub mod Start
+pub mod Copies

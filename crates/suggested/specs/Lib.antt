@@ -1,0 +1,3 @@
+pub mod Probability
+pub mod Last
+pub mod Held
