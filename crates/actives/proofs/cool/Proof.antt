@@ -11,8 +11,6 @@ use Rattle.actives.specs.Actives.{Cooling, Cooled}
 use Rattle.actives.proofs.Laws.{cool-turn, cool-start}
 use Rattle.actives.proofs.cool.Statement.{statement}
 use Rattle.actives.proofs.cool.Tie as tie
-use Rattle.actives.proofs.cool.Reads as reads
-use Rattle.actives.proofs.cool.Lts as lts
 
 abbrev Inv-loop : tie.InvT-loop
 Inv-loop active a hot₀ free₀ i₀ hot free i = (i ≤ a) × (length hot ≡ length hot₀) × (length free ≡ length free₀) × ((r : ℕ) → getD hot r false ≡ (getD hot₀ r false && not (member r (take i active)))) × ((r : ℕ) → getD free r false ≡ (getD free₀ r false && not (member r (take i active))))
@@ -20,52 +18,40 @@ Inv-loop active a hot₀ free₀ i₀ hot free i = (i ≤ a) × (length hot ≡ 
 abbrev μ-loop : tie.MeasureT-loop
 μ-loop active a hot₀ free₀ i₀ hot free i = a - i
 
--- src/lib.rt:17:5
 loop-holds : tie.Need-loop-holds Inv-loop μ-loop
 unfolding member
 loop-holds c = (omega arith, refl, refl, (λ r. cool-start (getD (c .args .hot .now) r false)), (λ r. cool-start (getD (c .args .free .now) r false)))
 
--- src/lib.rt:18:17
 mul-r : tie.Need-mul-r Inv-loop μ-loop
 mul-r c = omega (arith, c .before .before .pre .actives)
 
--- src/lib.rt:18:17
 shared-slice-read-r : tie.Need-shared-slice-read-r Inv-loop μ-loop
 shared-slice-read-r c = omega (arith, c .before .before .before .pre .actives)
 
--- src/lib.rt:18:17
 cast-r : tie.Need-cast-r Inv-loop μ-loop
 cast-r c = omega (arith, c .before .before .before .pre .inside (c .before .before .loop .i) (omega arith))
 
--- src/lib.rt:19:9
 slice-write-hot : tie.Need-slice-write-hot Inv-loop μ-loop
 slice-write-hot c = omega (arith, c .before .before .before .pre .inside (c .before .before .loop .i) (omega arith), c .before .before .loop .inv .1)
 
--- src/lib.rt:20:9
 slice-write-free : tie.Need-slice-write-free Inv-loop μ-loop
 slice-write-free c = omega (arith, c .before .before .before .pre .inside (c .before .before .loop .i) (omega arith), c .before .before .loop .inv .2, c .before .before .before .pre .frees)
 
--- src/lib.rt:21:9
 add-i : tie.Need-add-i Inv-loop μ-loop
 add-i c = omega (arith, c .before .before .before .pre .actives)
 
--- src/lib.rt:17:5
 loop-less : tie.Need-loop-less Inv-loop μ-loop
 loop-less c = omega arith
 
--- src/lib.rt:17:5
 loop-again : tie.Need-loop-again Inv-loop μ-loop
 loop-again c = (omega arith, simp length-set (c .before .before .loop .inv .1), simp length-set (c .before .before .loop .inv .2), cool-turn (c .before .before .before .args .active .now) (c .before .before .loop .i) (omega (arith, c .before .before .before .pre .actives)) (c .before .before .loop .hot) (c .before .before .before .args .hot .now) (omega (arith, c .before .before .before .pre .inside (c .before .before .loop .i) (omega arith), c .before .before .loop .inv .1)) (c .before .before .loop .inv .3), cool-turn (c .before .before .before .args .active .now) (c .before .before .loop .i) (omega (arith, c .before .before .before .pre .actives)) (c .before .before .loop .free) (c .before .before .before .args .free .now) (omega (arith, c .before .before .before .pre .inside (c .before .before .loop .i) (omega arith), c .before .before .loop .inv .2, c .before .before .before .pre .frees)) (c .before .before .loop .inv .4))
 
--- src/lib.rt:12:1
 same-length : tie.Need-same-length Inv-loop μ-loop
 same-length c = c .before .loop .inv .1
 
--- src/lib.rt:12:1
 same-length-2 : tie.Need-same-length-2 Inv-loop μ-loop
 same-length-2 c = c .before .loop .inv .2
 
--- src/lib.rt:12:1
 returns : tie.Need-returns Inv-loop μ-loop
 returns c = let q : c .before .loop .i ≡ c .before .before .args .a = omega arith in record { cold = rw q at (c .before .loop .inv .3); shut = rw q at (c .before .loop .inv .4) }
 

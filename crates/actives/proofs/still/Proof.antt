@@ -16,10 +16,6 @@ use Rattle.actives.specs.Actives.{Staying, Stayed, isOn, onward}
 use Rattle.actives.proofs.Laws.{out-keep, out-skip, hot-turn}
 use Rattle.actives.proofs.still.Statement.{statement}
 use Rattle.actives.proofs.still.Tie as tie
-use Rattle.actives.proofs.still.Reads as reads
-use Rattle.actives.proofs.still.Lts as lts
-use Rattle.actives.proofs.goes_on.Reads as goes-on-reads
-use Rattle.forest.proofs.find.Reads as find-reads
 
 abbrev Inv-loop : tie.InvT-loop
 Inv-loop d active₀ a parent₀ odd boundary-edge hot₀ k₀ i₀ active parent hot k i = (i ≤ a) × (k ≤ i) × Down d parent × (labels d parent ≡ labels d parent₀) × (length active ≡ length active₀) × (length parent ≡ length parent₀) × (length hot ≡ length hot₀)
@@ -29,76 +25,58 @@ Inv-loop d active₀ a parent₀ odd boundary-edge hot₀ k₀ i₀ active paren
 abbrev μ-loop : tie.MeasureT-loop
 μ-loop d active₀ a parent₀ odd boundary-edge hot₀ k₀ i₀ active parent hot k i = a - i
 
--- src/lib.rt:52:5
 loop-holds : tie.Need-loop-holds Inv-loop μ-loop
 unfolding filter firsts member
 loop-holds c = (omega arith, omega arith, c .before .before .before .before .before .pre .down, refl, refl, refl, refl, (λ j h. refl), refl, c .before .before .before .before .before .pre .cold, (λ j h. absurd (not-suc-le-zero h)))
 
--- src/lib.rt:53:17
 mul-x : tie.Need-mul-x Inv-loop μ-loop
 mul-x c = omega (arith, c .before .before .before .before .before .before .before .pre .actives, c .before .loop .inv .4)
 
--- src/lib.rt:53:17
 slice-read-x : tie.Need-slice-read-x Inv-loop μ-loop
 slice-read-x c = omega (arith, c .before .before .before .before .before .before .before .before .pre .actives, c .before .before .loop .inv .4)
 
--- src/lib.rt:53:17
 cast-x : tie.Need-cast-x Inv-loop μ-loop
 cast-x c = omega (arith, c .before .before .loop .inv .7 (c .before .before .loop .i) (omega arith), c .before .before .before .before .before .before .before .before .pre .inside (c .before .before .loop .i) (omega arith), c .before .before .before .before .before .before .before .before .pre .small)
 
--- src/lib.rt:54:9
 add-i : tie.Need-add-i Inv-loop μ-loop
 add-i c = omega (arith, c .before .before .before .before .before .before .before .before .pre .actives)
 
--- src/lib.rt:55:13
 find-requires : tie.Need-find-requires Inv-loop μ-loop
 find-requires c κs = (c .before .before .before .loop .inv .2, omega (arith, c .before .before .before .loop .inv .7 (c .before .before .before .loop .i) (omega arith), c .before .before .before .before .before .before .before .before .before .pre .inside (c .before .before .before .loop .i) (omega arith)))
 
--- src/lib.rt:56:28
 slice-read-goes-on : tie.Need-slice-read-goes-on Inv-loop μ-loop
 slice-read-goes-on c = omega (arith, c .before .before .before .before .before .before .before .before .before .before .before .before .before .pre .hots, c .before .before .before .before .before .before .before .loop .inv .6, c .before .before .before .find .ensures .inside)
 
--- src/lib.rt:56:36
 shared-slice-read-goes-on : tie.Need-shared-slice-read-goes-on Inv-loop μ-loop
 shared-slice-read-goes-on c = omega (arith, c .before .before .before .before .before .before .before .before .before .before .before .before .before .before .pre .odds, c .before .before .before .before .find .ensures .inside)
 
--- src/lib.rt:56:44
 mul-goes-on : tie.Need-mul-goes-on Inv-loop μ-loop
 mul-goes-on c = omega (arith, c .before .before .before .before .before .before .before .before .before .before .before .before .before .before .pre .exits, c .before .before .before .before .find .ensures .inside)
 
--- src/lib.rt:56:44
 shared-slice-read-goes-on-2 : tie.Need-shared-slice-read-goes-on-2 Inv-loop μ-loop
 shared-slice-read-goes-on-2 c = omega (arith, c .before .before .before .before .before .before .before .before .before .before .before .before .before .before .before .pre .exits, c .before .before .before .before .before .find .ensures .inside)
 
--- src/lib.rt:56:13
 goes-on-requires : tie.Need-goes-on-requires Inv-loop μ-loop
 goes-on-requires c κs = tt
 
--- src/lib.rt:58:13
 slice-write-hot : tie.Need-slice-write-hot Inv-loop μ-loop
 slice-write-hot c = omega (arith, c .before .before .before .before .before .before .before .before .before .before .before .before .before .before .before .before .before .pre .hots, c .before .before .before .before .before .before .before .before .before .before .before .loop .inv .6, c .before .before .before .before .before .before .before .find .ensures .inside)
 
--- src/lib.rt:59:25
 cast-active : tie.Need-cast-active Inv-loop μ-loop
 cast-active c = omega (arith, c .before .before .before .before .before .before .before .before .before .before .before .before .before .before .before .before .before .pre .small, c .before .before .before .before .before .before .before .find .ensures .inside)
 
--- src/lib.rt:59:13
 mul-active : tie.Need-mul-active Inv-loop μ-loop
 mul-active c = omega (arith, c .before .before .before .before .before .before .before .before .before .before .before .before .before .before .before .before .before .pre .actives, c .before .before .before .before .before .before .before .before .before .before .before .loop .inv .4)
 
--- src/lib.rt:59:13
 slice-write-active : tie.Need-slice-write-active Inv-loop μ-loop
 slice-write-active c = omega (arith, c .before .before .before .before .before .before .before .before .before .before .before .before .before .before .before .before .before .pre .actives, c .before .before .before .before .before .before .before .before .before .before .before .loop .inv .4)
 
--- src/lib.rt:60:13
 add-k : tie.Need-add-k Inv-loop μ-loop
 add-k c = omega (arith, c .before .before .before .before .before .before .before .before .before .before .before .before .before .before .before .before .before .pre .actives)
 
--- src/lib.rt:52:5
 loop-less : tie.Need-loop-less Inv-loop μ-loop
 loop-less c = omega arith
 
--- src/lib.rt:52:5
 loop-again : tie.Need-loop-again Inv-loop μ-loop
 loop-again c = (
   omega arith,
@@ -114,11 +92,9 @@ loop-again c = (
   (λ j h. ⊎-elim (λ z. rw (z .1) (c .before .before .before .before .before .before .before .find .ensures .inside)) (λ z. rw (z .1) (c .before .before .before .before .before .before .before .before .before .before .before .loop .inv .10 j (omega (arith, z .0)))) (at-set (c .before .before .before .before .before .before .before .before .before .before .before .loop .active) (c .before .before .before .before .before .before .before .before .before .before .before .loop .k) (c .before .before .before .before .before .before .before .find .result) 0 j (omega (arith, c .before .before .before .before .before .before .before .before .before .before .before .before .before .before .before .before .before .pre .actives, c .before .before .before .before .before .before .before .before .before .before .before .loop .inv .4)))),
 )
 
--- src/lib.rt:52:5
 loop-less-2 : tie.Need-loop-less-2 Inv-loop μ-loop
 loop-less-2 c = omega arith
 
--- src/lib.rt:52:5
 loop-again-2 : tie.Need-loop-again-2 Inv-loop μ-loop
 loop-again-2 c = (
   omega arith,
@@ -134,19 +110,15 @@ loop-again-2 c = (
   c .before .before .before .before .before .before .before .before .before .before .before .loop .inv .10,
 )
 
--- src/lib.rt:38:1
 same-length : tie.Need-same-length Inv-loop μ-loop
 same-length c = c .before .loop .inv .4
 
--- src/lib.rt:38:1
 same-length-2 : tie.Need-same-length-2 Inv-loop μ-loop
 same-length-2 c = c .before .loop .inv .5
 
--- src/lib.rt:38:1
 same-length-3 : tie.Need-same-length-3 Inv-loop μ-loop
 same-length-3 c = c .before .loop .inv .6
 
--- src/lib.rt:38:1
 returns : tie.Need-returns Inv-loop μ-loop
 returns c = let q : c .before .loop .i ≡ c .before .before .before .before .before .before .before .args .a = omega arith in record { down = c .before .loop .inv .2; kept = c .before .loop .inv .3; few = omega arith; inside = c .before .loop .inv .10; active-is = rw q at (c .before .loop .inv .8); hot-is = c .before .loop .inv .9 }
 

@@ -10,118 +10,90 @@ use Rattle.cleaning.specs.Clean.{Sizes, Clean}
 use borrow.Author.Needs.{needs}
 use Rattle.cleaning.proofs.reset_all.Statement.{statement}
 use Rattle.cleaning.proofs.reset_all.Tie as tie
-use Rattle.cleaning.proofs.reset_all.Reads as reads
-use Rattle.cleaning.proofs.reset_all.Lts as lts
-use Rattle.fills.proofs.fill_bool.Reads as fill-bool-reads
-use Rattle.fills.proofs.fill_f64.Reads as fill-f64-reads
-use Rattle.fills.proofs.fill_numbers.Reads as fill-numbers-reads
-use Rattle.fills.proofs.fill_u32.Reads as fill-u32-reads
-use Rattle.fills.proofs.fill_u64.Reads as fill-u64-reads
 
--- src/lib.rt:30:5
 fill-bool-requires : tie.Need-fill-bool-requires
 fill-bool-requires c κs = search needs
 
--- src/lib.rt:31:5
 fill-f64-requires : tie.Need-fill-f64-requires
 fill-f64-requires c κs = search needs
 
--- src/lib.rt:32:5
 fill-bool-requires-2 : tie.Need-fill-bool-requires-2
 fill-bool-requires-2 c κs = search needs
 
--- src/lib.rt:33:5
 fill-bool-requires-3 : tie.Need-fill-bool-requires-3
 fill-bool-requires-3 c κs = search needs
 
--- src/lib.rt:34:5
 fill-numbers-requires : tie.Need-fill-numbers-requires
 fill-numbers-requires c κs = omega (arith, c .before .before .before .before .before .before .before .before .before .before .before .before .before .before .before .before .before .before .before .before .before .before .before .before .before .before .before .before .pre .parents, c .before .before .before .before .before .before .before .before .before .before .before .before .before .before .before .before .before .before .before .before .before .before .before .before .before .before .before .before .pre .small)
 
--- src/lib.rt:35:5
 fill-bool-requires-4 : tie.Need-fill-bool-requires-4
 fill-bool-requires-4 c κs = search needs
 
--- src/lib.rt:36:5
 fill-u32-requires : tie.Need-fill-u32-requires
 fill-u32-requires c κs = search needs
 
--- src/lib.rt:37:5
 fill-bool-requires-5 : tie.Need-fill-bool-requires-5
 fill-bool-requires-5 c κs = search needs
 
--- src/lib.rt:38:5
 fill-bool-requires-6 : tie.Need-fill-bool-requires-6
 fill-bool-requires-6 c κs = search needs
 
--- src/lib.rt:39:5
 fill-bool-requires-7 : tie.Need-fill-bool-requires-7
 fill-bool-requires-7 c κs = search needs
 
--- src/lib.rt:40:5
 fill-u64-requires : tie.Need-fill-u64-requires
 fill-u64-requires c κs = search needs
 
--- src/lib.rt:12:1
 same-length : tie.Need-same-length
 same-length c = c .before .before .before .before .before .before .before .before .before .before .before .before .before .before .before .before .before .before .before .before .before .before .before .before .before .before .before .before .before .before .before .before .before .before .before .before .before .before .before .before .before .before .fill-bool .kept .0
 
--- src/lib.rt:12:1
 same-length-2 : tie.Need-same-length-2
 same-length-2 c = c .before .before .before .before .before .before .before .before .before .before .before .before .before .before .before .before .before .before .before .before .before .before .before .before .before .before .before .before .before .before .before .before .before .before .before .before .before .before .fill-f64 .kept .0
 
--- src/lib.rt:12:1
 same-length-3 : tie.Need-same-length-3
 same-length-3 c = c .before .before .before .before .before .before .before .before .before .before .before .before .before .before .before .before .before .before .before .before .before .before .before .before .before .before .before .before .before .before .before .before .before .before .fill-bool2 .kept .0
 
--- src/lib.rt:12:1
 same-length-4 : tie.Need-same-length-4
 same-length-4 c = c .before .before .before .before .before .before .before .before .before .before .before .before .before .before .before .before .before .before .before .before .before .before .before .before .before .before .before .before .before .before .fill-bool3 .kept .0
 
--- src/lib.rt:12:1
 same-length-5 : tie.Need-same-length-5
 same-length-5 c = search needs
 
--- src/lib.rt:12:1
 same-length-6 : tie.Need-same-length-6
 same-length-6 c = search needs
 
--- src/lib.rt:12:1
 same-length-7 : tie.Need-same-length-7
 same-length-7 c = search needs
 
--- src/lib.rt:12:1
 same-length-8 : tie.Need-same-length-8
 same-length-8 c = search needs
 
--- src/lib.rt:12:1
 same-length-9 : tie.Need-same-length-9
 same-length-9 c = search needs
 
--- src/lib.rt:12:1
 same-length-10 : tie.Need-same-length-10
 same-length-10 c = search needs
 
--- src/lib.rt:12:1
 same-length-11 : tie.Need-same-length-11
 same-length-11 c = search needs
 
--- src/lib.rt:12:1
 returns : tie.Need-returns
 unfolding Ieee.ofBits
-returns c = record {
-  lits = c .before .before .before .before .before .before .before .before .before .before .before .before .before .before .before .before .before .before .before .before .before .before .before .before .before .before .before .before .before .before .before .before .before .before .before .before .before .before .before .before .before .before .fill-bool .ensures ∙ ap (λ k. replicate k false) (c .before .before .before .before .before .before .before .before .before .before .before .before .before .before .before .before .before .before .before .before .before .before .before .before .before .before .before .before .before .before .before .before .before .before .before .before .before .before .before .before .before .before .before .before .before .before .before .before .before .before .before .before .before .before .before .pre .lits);
-  growths = c .before .before .before .before .before .before .before .before .before .before .before .before .before .before .before .before .before .before .before .before .before .before .before .before .before .before .before .before .before .before .before .before .before .before .before .before .before .before .fill-f64 .ensures ∙ ap (λ k. replicate k zero64) (c .before .before .before .before .before .before .before .before .before .before .before .before .before .before .before .before .before .before .before .before .before .before .before .before .before .before .before .before .before .before .before .before .before .before .before .before .before .before .before .before .before .before .before .before .before .before .before .before .before .before .before .before .before .before .before .pre .growths);
-  sats = c .before .before .before .before .before .before .before .before .before .before .before .before .before .before .before .before .before .before .before .before .before .before .before .before .before .before .before .before .before .before .before .before .before .before .fill-bool2 .ensures ∙ ap (λ k. replicate k false) (c .before .before .before .before .before .before .before .before .before .before .before .before .before .before .before .before .before .before .before .before .before .before .before .before .before .before .before .before .before .before .before .before .before .before .before .before .before .before .before .before .before .before .before .before .before .before .before .before .before .before .before .before .before .before .before .pre .sats);
-  knowns = c .before .before .before .before .before .before .before .before .before .before .before .before .before .before .before .before .before .before .before .before .before .before .before .before .before .before .before .before .before .before .fill-bool3 .ensures ∙ ap (λ k. replicate k false) (c .before .before .before .before .before .before .before .before .before .before .before .before .before .before .before .before .before .before .before .before .before .before .before .before .before .before .before .before .before .before .before .before .before .before .before .before .before .before .before .before .before .before .before .before .before .before .before .before .before .before .before .before .before .before .before .pre .knowns);
-  parents = c .before .before .before .before .before .before .before .before .before .before .before .before .before .before .before .before .before .before .before .before .before .before .before .before .before .before .fill-numbers .ensures ∙ ap below (c .before .before .before .before .before .before .before .before .before .before .before .before .before .before .before .before .before .before .before .before .before .before .before .before .before .before .before .before .before .before .before .before .before .before .before .before .before .before .before .before .before .before .before .before .before .before .before .before .before .before .before .before .before .before .before .pre .parents);
-  odds = c .before .before .before .before .before .before .before .before .before .before .before .before .before .before .before .before .before .before .before .before .before .before .fill-bool4 .ensures ∙ ap (λ k. replicate k false) (c .before .before .before .before .before .before .before .before .before .before .before .before .before .before .before .before .before .before .before .before .before .before .before .before .before .before .before .before .before .before .before .before .before .before .before .before .before .before .before .before .before .before .before .before .before .before .before .before .before .before .before .before .before .before .before .pre .odds);
-  exits = c .before .before .before .before .before .before .before .before .before .before .before .before .before .before .before .before .before .before .fill-u32 .ensures ∙ ap (λ k. replicate k boundary) (c .before .before .before .before .before .before .before .before .before .before .before .before .before .before .before .before .before .before .before .before .before .before .before .before .before .before .before .before .before .before .before .before .before .before .before .before .before .before .before .before .before .before .before .before .before .before .before .before .before .before .before .before .before .before .before .pre .exits);
-  hots = c .before .before .before .before .before .before .before .before .before .before .before .before .before .before .fill-bool5 .ensures ∙ ap (λ k. replicate k false) (c .before .before .before .before .before .before .before .before .before .before .before .before .before .before .before .before .before .before .before .before .before .before .before .before .before .before .before .before .before .before .before .before .before .before .before .before .before .before .before .before .before .before .before .before .before .before .before .before .before .before .before .before .before .before .before .pre .hots);
-  frees = c .before .before .before .before .before .before .before .before .before .before .fill-bool6 .ensures ∙ ap (λ k. replicate k false) (c .before .before .before .before .before .before .before .before .before .before .before .before .before .before .before .before .before .before .before .before .before .before .before .before .before .before .before .before .before .before .before .before .before .before .before .before .before .before .before .before .before .before .before .before .before .before .before .before .before .before .before .before .before .before .before .pre .frees);
-  lives = c .before .before .before .before .before .before .fill-bool7 .ensures ∙ ap (λ k. replicate k false) (c .before .before .before .before .before .before .before .before .before .before .before .before .before .before .before .before .before .before .before .before .before .before .before .before .before .before .before .before .before .before .before .before .before .before .before .before .before .before .before .before .before .before .before .before .before .before .before .before .before .before .before .before .before .before .before .pre .lives);
-  no-bits = c .before .before .fill-u64 .ensures ∙ ap (λ k. replicate k 0) (c .before .before .before .before .before .before .before .before .before .before .before .before .before .before .before .before .before .before .before .before .before .before .before .before .before .before .before .before .before .before .before .before .before .before .before .before .before .before .before .before .before .before .before .before .before .before .before .before .before .before .before .before .before .before .before .pre .marks);
-}
+returns c =
+    let pre = c .before .before .before .before .before .before .before .before .before .before .before .before .before .before .before .before .before .before .before .before .before .before .before .before .before .before .before .before .before .before .before .before .before .before .before .before .before .before .before .before .before .before .before .before .before .before .before .before .before .before .before .before .before .before .before .pre in
+    record {
+      lits = c .before .before .before .before .before .before .before .before .before .before .before .before .before .before .before .before .before .before .before .before .before .before .before .before .before .before .before .before .before .before .before .before .before .before .before .before .before .before .before .before .before .before .fill-bool .ensures ∙ ap (λ k. replicate k false) (pre .lits);
+      growths = c .before .before .before .before .before .before .before .before .before .before .before .before .before .before .before .before .before .before .before .before .before .before .before .before .before .before .before .before .before .before .before .before .before .before .before .before .before .before .fill-f64 .ensures ∙ ap (λ k. replicate k zero64) (pre .growths);
+      sats = c .before .before .before .before .before .before .before .before .before .before .before .before .before .before .before .before .before .before .before .before .before .before .before .before .before .before .before .before .before .before .before .before .before .before .fill-bool2 .ensures ∙ ap (λ k. replicate k false) (pre .sats);
+      knowns = c .before .before .before .before .before .before .before .before .before .before .before .before .before .before .before .before .before .before .before .before .before .before .before .before .before .before .before .before .before .before .fill-bool3 .ensures ∙ ap (λ k. replicate k false) (pre .knowns);
+      parents = c .before .before .before .before .before .before .before .before .before .before .before .before .before .before .before .before .before .before .before .before .before .before .before .before .before .before .fill-numbers .ensures ∙ ap below (pre .parents);
+      odds = c .before .before .before .before .before .before .before .before .before .before .before .before .before .before .before .before .before .before .before .before .before .before .fill-bool4 .ensures ∙ ap (λ k. replicate k false) (pre .odds);
+      exits = c .before .before .before .before .before .before .before .before .before .before .before .before .before .before .before .before .before .before .fill-u32 .ensures ∙ ap (λ k. replicate k boundary) (pre .exits);
+      hots = c .before .before .before .before .before .before .before .before .before .before .before .before .before .before .fill-bool5 .ensures ∙ ap (λ k. replicate k false) (pre .hots);
+      frees = c .before .before .before .before .before .before .before .before .before .before .fill-bool6 .ensures ∙ ap (λ k. replicate k false) (pre .frees);
+      lives = c .before .before .before .before .before .before .fill-bool7 .ensures ∙ ap (λ k. replicate k false) (pre .lives);
+      no-bits = c .before .before .fill-u64 .ensures ∙ ap (λ k. replicate k 0) (pre .marks);
+    }
 
 pub reset-all-spec : {M : Type 1} → statement M
 reset-all-spec =

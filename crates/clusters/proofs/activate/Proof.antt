@@ -9,44 +9,39 @@ use Rattle.clusters.proofs.Laws.{activate-old, activate-new, activate-r
 use borrow.Author.Needs.{needs}
 use Rattle.clusters.proofs.activate.Statement.{statement}
 use Rattle.clusters.proofs.activate.Tie as tie
-use Rattle.clusters.proofs.activate.Reads as reads
-use Rattle.clusters.proofs.activate.Lts as lts
 
--- src/lib.rt:18:13
 slice-read-k : tie.Need-slice-read-k
 slice-read-k c = search needs
 
--- src/lib.rt:20:9
 returns : tie.Need-returns
-returns c = activate-old (c .before .before .pre .0) (c .before .before .args .x) (c .before .before .pre .1) (c .if1 .taken)
+returns c =
+    let pre = c .before .before .pre in
+    activate-old (pre .0) (c .before .before .args .x) (pre .1) (c .if1 .taken)
 
--- src/lib.rt:22:5
 mul-seen : tie.Need-mul-seen
 mul-seen c = search needs
 
--- src/lib.rt:22:5
 slice-write-seen : tie.Need-slice-write-seen
-slice-write-seen c = activate-room (c .before .before .pre .0) (c .before .before .args .x) (c .before .before .pre .1) (c .if1 .left)
+slice-write-seen c =
+    let pre = c .before .before .pre in
+    activate-room (pre .0) (c .before .before .args .x) (pre .1) (c .if1 .left)
 
--- src/lib.rt:23:5
 slice-write-known : tie.Need-slice-write-known
 slice-write-known c = search needs
 
--- src/lib.rt:24:5
 add-result : tie.Need-add-result
 add-result c = search needs
 
--- src/lib.rt:12:1
 same-length : tie.Need-same-length
 same-length c = search needs
 
--- src/lib.rt:12:1
 same-length-2 : tie.Need-same-length-2
 same-length-2 c = search needs
 
--- src/lib.rt:12:1
 returns-2 : tie.Need-returns-2
-returns-2 c = activate-new (c .before .before .pre .0) (c .before .before .args .x) (c .before .before .pre .1) (c .if1 .left)
+returns-2 c =
+    let pre = c .before .before .pre in
+    activate-new (pre .0) (c .before .before .args .x) (pre .1) (c .if1 .left)
 
 pub activate-spec : {M : Type 1} → statement M
 activate-spec =

@@ -10,46 +10,36 @@ use mathlib.Core.List.{List}
 use borrow.Author.Needs.{needs}
 use Rattle.clusters.proofs.leave.Statement.{statement}
 use Rattle.clusters.proofs.leave.Tie as tie
-use Rattle.clusters.proofs.leave.Reads as reads
-use Rattle.clusters.proofs.leave.Lts as lts
-use Rattle.clusters.proofs.lower.Reads as lower-reads
-use Rattle.forest.proofs.find.Reads as find-reads
 
--- src/lib.rt:75:9
 find-requires : tie.Need-find-requires
 find-requires c κs = search needs
 
--- src/lib.rt:76:19
 mul-lower : tie.Need-mul-lower
 mul-lower c = search needs
 
--- src/lib.rt:76:19
 slice-read-lower : tie.Need-slice-read-lower
 slice-read-lower c = search needs
 
--- src/lib.rt:76:9
 lower-requires : tie.Need-lower-requires
 lower-requires c κs = search needs
 
--- src/lib.rt:77:5
 mul-boundary-edge : tie.Need-mul-boundary-edge
 mul-boundary-edge c = search needs
 
--- src/lib.rt:77:5
 slice-write-boundary-edge : tie.Need-slice-write-boundary-edge
 slice-write-boundary-edge c = search needs
 
--- src/lib.rt:71:1
 same-length : tie.Need-same-length
 same-length c = search needs
 
--- src/lib.rt:71:1
 same-length-2 : tie.Need-same-length-2
 same-length-2 c = search needs
 
--- src/lib.rt:71:1
 returns : tie.Need-returns
-returns c = let f = c .before .before .before .before .find .ensures in record { down = f .down; labels-are = f .kept; exit-is = ap (set (c .before .before .before .before .before .before .before .before .args .boundary-edge .now) (c .before .before .before .before .find .result)) (c .lower .ensures) ∙ ap (λ r. set (c .before .before .before .before .before .before .before .before .args .boundary-edge .now) r (min (getD (c .before .before .before .before .before .before .before .before .args .boundary-edge .now) r 0) (c .before .before .before .before .before .before .before .before .args .e))) (f .is) }
+returns c =
+    let find = c .before .before .before .before .find in
+    let args = c .before .before .before .before .before .before .before .before .args in
+    let f = find .ensures in record { down = f .down; labels-are = f .kept; exit-is = ap (set (args .boundary-edge .now) (find .result)) (c .lower .ensures) ∙ ap (λ r. set (args .boundary-edge .now) r (min (getD (args .boundary-edge .now) r 0) (args .e))) (f .is) }
 
 pub leave-spec : {M : Type 1} → statement M
 leave-spec =

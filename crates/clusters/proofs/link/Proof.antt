@@ -8,82 +8,62 @@ use lib.Seq.{slice, slice-empty}
 use borrow.Author.Needs.{needs}
 use Rattle.clusters.proofs.link.Statement.{statement}
 use Rattle.clusters.proofs.link.Tie as tie
-use Rattle.clusters.proofs.link.Reads as reads
-use Rattle.clusters.proofs.link.Lts as lts
-use Rattle.clusters.proofs.differ.Reads as differ-reads
-use Rattle.clusters.proofs.lower.Reads as lower-reads
 
--- src/lib.rt:47:18
 cast-parent : tie.Need-cast-parent
 cast-parent c = search needs
 
--- src/lib.rt:47:5
 mul-parent : tie.Need-mul-parent
 mul-parent c = search needs
 
--- src/lib.rt:47:5
 slice-write-parent : tie.Need-slice-write-parent
 slice-write-parent c = search needs
 
--- src/lib.rt:48:20
 slice-read-differ : tie.Need-slice-read-differ
 slice-read-differ c = search needs
 
--- src/lib.rt:48:29
 slice-read-differ-2 : tie.Need-slice-read-differ-2
 slice-read-differ-2 c = search needs
 
--- src/lib.rt:48:9
 differ-requires : tie.Need-differ-requires
 differ-requires c κs = search needs
 
--- src/lib.rt:49:5
 slice-write-odd : tie.Need-slice-write-odd
 slice-write-odd c = search needs
 
--- src/lib.rt:50:19
 mul-lower : tie.Need-mul-lower
 mul-lower c = search needs
 
--- src/lib.rt:50:19
 slice-read-lower : tie.Need-slice-read-lower
 slice-read-lower c = search needs
 
--- src/lib.rt:50:38
 mul-lower-2 : tie.Need-mul-lower-2
 mul-lower-2 c = search needs
 
--- src/lib.rt:50:38
 slice-read-lower-2 : tie.Need-slice-read-lower-2
 slice-read-lower-2 c = search needs
 
--- src/lib.rt:50:9
 lower-requires : tie.Need-lower-requires
 lower-requires c κs = search needs
 
--- src/lib.rt:51:5
 mul-boundary-edge : tie.Need-mul-boundary-edge
 mul-boundary-edge c = search needs
 
--- src/lib.rt:51:5
 slice-write-boundary-edge : tie.Need-slice-write-boundary-edge
 slice-write-boundary-edge c = search needs
 
--- src/lib.rt:43:1
 same-length : tie.Need-same-length
 same-length c = search needs
 
--- src/lib.rt:43:1
 same-length-2 : tie.Need-same-length-2
 same-length-2 c = search needs
 
--- src/lib.rt:43:1
 same-length-3 : tie.Need-same-length-3
 same-length-3 c = search needs
 
--- src/lib.rt:43:1
 returns : tie.Need-returns
-returns c = record { parents = refl; odds = ap (set (c .before .before .before .before .before .before .before .before .before .args .odd .now) (c .before .before .before .before .before .before .before .before .before .args .lo)) (c .before .before .before .differ .ensures); exits = ap (set (c .before .before .before .before .before .before .before .before .before .args .boundary-edge .now) (c .before .before .before .before .before .before .before .before .before .args .lo)) (c .lower .ensures) }
+returns c =
+    let args = c .before .before .before .before .before .before .before .before .before .args in
+    record { parents = refl; odds = ap (set (args .odd .now) (args .lo)) (c .before .before .before .differ .ensures); exits = ap (set (args .boundary-edge .now) (args .lo)) (c .lower .ensures) }
 
 pub link-spec : {M : Type 1} → statement M
 link-spec =

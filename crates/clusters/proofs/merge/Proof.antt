@@ -14,9 +14,6 @@ use Rattle.clusters.specs.Joins.{Ready, Covers, KeepsIn, allSet, Merged}
 use Rattle.clusters.proofs.Laws.{set-turn, merge-turn, set-end, merge-end}
 use Rattle.clusters.proofs.merge.Statement.{statement}
 use Rattle.clusters.proofs.merge.Tie as tie
-use Rattle.clusters.proofs.merge.Reads as reads
-use Rattle.clusters.proofs.merge.Lts as lts
-use Rattle.clusters.proofs.saturate.Reads as saturate-reads
 
 abbrev Inv-loop : tie.InvT-loop
 Inv-loop d edge-u edge-v fresh k sat₀ known₀ seen₀ n parent₀ odd₀ boundary-edge₀ m₀ i₀ sat known seen parent odd boundary-edge m i = (i ≤ k) × Ready d edge-u edge-v sat known seen m parent odd boundary-edge × (allSet sat (slice i k fresh) ≡ allSet sat₀ (take k fresh))
@@ -28,31 +25,24 @@ Inv-loop d edge-u edge-v fresh k sat₀ known₀ seen₀ n parent₀ odd₀ boun
 abbrev μ-loop : tie.MeasureT-loop
 μ-loop d edge-u edge-v fresh k sat₀ known₀ seen₀ n parent₀ odd₀ boundary-edge₀ m₀ i₀ sat known seen parent odd boundary-edge m i = k - i
 
--- src/lib.rt:135:5
 loop-holds : tie.Need-loop-holds Inv-loop μ-loop
 loop-holds c = (omega arith, c .before .before .before .before .before .before .before .before .before .pre .0, refl, (λ ws lit. refl), (λ y t. t), (λ cv. cv), (λ ws ok few lit k. k), refl, refl, refl, refl, refl, refl)
 
--- src/lib.rt:136:17
 mul-e : tie.Need-mul-e Inv-loop μ-loop
 mul-e c = omega (arith, c .before .before .before .before .before .before .before .before .before .before .before .pre .1 .freshes)
 
--- src/lib.rt:136:17
 shared-slice-read-e : tie.Need-shared-slice-read-e Inv-loop μ-loop
 shared-slice-read-e c = omega (arith, c .before .before .before .before .before .before .before .before .before .before .before .before .pre .1 .freshes)
 
--- src/lib.rt:137:9
 saturate-requires : tie.Need-saturate-requires Inv-loop μ-loop
 saturate-requires c κs = (c .before .before .before .before .before .before .before .before .loop .inv .1, c .before .before .before .before .before .before .before .before .before .before .before .before .before .before .before .before .before .before .pre .1 .inside (c .before .before .before .before .before .before .before .before .loop .i) (omega arith))
 
--- src/lib.rt:138:9
 add-i : tie.Need-add-i Inv-loop μ-loop
 add-i c = omega (arith, c .before .before .before .before .before .before .before .before .before .before .before .before .before .before .before .before .before .before .before .before .before .before .before .before .before .before .before .before .before .before .before .pre .1 .freshes)
 
--- src/lib.rt:135:5
 loop-less : tie.Need-loop-less Inv-loop μ-loop
 loop-less c = omega arith
 
--- src/lib.rt:135:5
 loop-again : tie.Need-loop-again Inv-loop μ-loop
 loop-again c = (
   omega arith,
@@ -70,31 +60,24 @@ loop-again c = (
   c .before .before .before .before .before .before .before .before .before .before .before .before .saturate .kept .1 .1 .1 .1 .1 .1 .1 .1 .1 .1 .0 ∙ c .before .before .before .before .before .before .before .before .before .before .before .before .before .before .before .before .before .before .before .before .before .loop .inv .12,
 )
 
--- src/lib.rt:114:1
 same-length : tie.Need-same-length Inv-loop μ-loop
 same-length c = c .before .loop .inv .7
 
--- src/lib.rt:114:1
 same-length-2 : tie.Need-same-length-2 Inv-loop μ-loop
 same-length-2 c = c .before .loop .inv .8
 
--- src/lib.rt:114:1
 same-length-3 : tie.Need-same-length-3 Inv-loop μ-loop
 same-length-3 c = c .before .loop .inv .9
 
--- src/lib.rt:114:1
 same-length-4 : tie.Need-same-length-4 Inv-loop μ-loop
 same-length-4 c = c .before .loop .inv .10
 
--- src/lib.rt:114:1
 same-length-5 : tie.Need-same-length-5 Inv-loop μ-loop
 same-length-5 c = c .before .loop .inv .11
 
--- src/lib.rt:114:1
 same-length-6 : tie.Need-same-length-6 Inv-loop μ-loop
 same-length-6 c = c .before .loop .inv .12
 
--- src/lib.rt:114:1
 returns : tie.Need-returns Inv-loop μ-loop
 returns c = let q : c .before .loop .i ≡ c .before .before .before .before .before .before .before .before .before .before .before .args .k = omega arith in record {
   sat-is = sym (set-end (c .before .before .before .before .before .before .before .before .before .before .before .args .fresh .now) (c .before .before .before .before .before .before .before .before .before .before .before .args .k) (c .before .loop .sat)) ∙ (rw q at (c .before .loop .inv .2));

@@ -9,64 +9,52 @@ use Rattle.clusters.proofs.Laws.{joined-lt, joined-gt, joined-eq}
 use borrow.Author.Needs.{needs}
 use Rattle.clusters.proofs.union.Statement.{statement}
 use Rattle.clusters.proofs.union.Tie as tie
-use Rattle.clusters.proofs.union.Reads as reads
-use Rattle.clusters.proofs.union.Lts as lts
-use Rattle.clusters.proofs.link.Reads as link-reads
-use Rattle.forest.proofs.find.Reads as find-reads
 
--- src/lib.rt:59:9
 find-requires : tie.Need-find-requires
 find-requires c κs = search needs
 
--- src/lib.rt:60:9
 find-requires-2 : tie.Need-find-requires-2
 find-requires-2 c κs = search needs
 
--- src/lib.rt:62:9
 link-requires : tie.Need-link-requires
 link-requires c κs = search needs
 
--- src/lib.rt:63:9
 same-length : tie.Need-same-length
 same-length c = search needs
 
--- src/lib.rt:63:9
 same-length-2 : tie.Need-same-length-2
 same-length-2 c = search needs
 
--- src/lib.rt:63:9
 same-length-3 : tie.Need-same-length-3
 same-length-3 c = search needs
 
--- src/lib.rt:63:9
 returns : tie.Need-returns
-returns c = let l = c .before .before .before .before .before .before .link .ensures in rw (l .parents, l .odds, l .exits) (joined-lt (c .before .before .before .before .before .before .before .before .before .before .before .before .before .before .before .before .before .before .before .before .before .before .pre .down) (c .before .before .before .before .before .before .before .before .before .before .before .before .before .before .before .before .before .before .before .before .before .before .pre .first) (c .before .before .before .before .before .before .before .before .before .before .before .before .before .before .before .before .before .before .before .before .before .before .pre .second) (c .before .before .before .before .before .before .before .before .before .before .before .before .before .before .before .before .before .find .ensures) (c .before .before .before .before .before .before .before .before .before .before .before .before .before .find2 .ensures) (c .before .before .before .before .before .before .before .before .before .before .before .before .before .before .before .before .before .before .before .before .before .before .args .odd .now) (c .before .before .before .before .before .before .before .before .before .before .before .before .before .before .before .before .before .before .before .before .before .before .args .boundary-edge .now) (c .before .before .before .before .before .before .before .before .before .before .if1 .taken))
+returns c =
+    let pre = c .before .before .before .before .before .before .before .before .before .before .before .before .before .before .before .before .before .before .before .before .before .before .pre in
+    let args = c .before .before .before .before .before .before .before .before .before .before .before .before .before .before .before .before .before .before .before .before .before .before .args in
+    let l = c .before .before .before .before .before .before .link .ensures in rw (l .parents, l .odds, l .exits) (joined-lt (pre .down) (pre .first) (pre .second) (c .before .before .before .before .before .before .before .before .before .before .before .before .before .before .before .before .before .find .ensures) (c .before .before .before .before .before .before .before .before .before .before .before .before .before .find2 .ensures) (args .odd .now) (args .boundary-edge .now) (c .before .before .before .before .before .before .before .before .before .before .if1 .taken))
 
--- src/lib.rt:66:9
 link-requires-2 : tie.Need-link-requires-2
 link-requires-2 c κs = search needs
 
--- src/lib.rt:55:1
 same-length-4 : tie.Need-same-length-4
 same-length-4 c = search needs
 
--- src/lib.rt:55:1
 same-length-5 : tie.Need-same-length-5
 same-length-5 c = search needs
 
--- src/lib.rt:55:1
 same-length-6 : tie.Need-same-length-6
 same-length-6 c = search needs
 
--- src/lib.rt:55:1
 returns-2 : tie.Need-returns-2
-returns-2 c = let l = c .before .before .before .before .before .before .link2 .ensures in rw (l .parents, l .odds, l .exits) (joined-gt (c .before .before .before .before .before .before .before .before .before .before .before .before .before .before .before .before .before .before .before .before .before .before .before .pre .down) (c .before .before .before .before .before .before .before .before .before .before .before .before .before .before .before .before .before .before .before .before .before .before .before .pre .first) (c .before .before .before .before .before .before .before .before .before .before .before .before .before .before .before .before .before .before .before .before .before .before .before .pre .second) (c .before .before .before .before .before .before .before .before .before .before .before .before .before .before .before .before .before .before .find .ensures) (c .before .before .before .before .before .before .before .before .before .before .before .before .before .before .find2 .ensures) (c .before .before .before .before .before .before .before .before .before .before .before .before .before .before .before .before .before .before .before .before .before .before .before .args .odd .now) (c .before .before .before .before .before .before .before .before .before .before .before .before .before .before .before .before .before .before .before .before .before .before .before .args .boundary-edge .now) (c .before .before .before .before .before .before .before .before .before .before .if2 .taken))
+returns-2 c =
+    let pre = c .before .before .before .before .before .before .before .before .before .before .before .before .before .before .before .before .before .before .before .before .before .before .before .pre in
+    let args = c .before .before .before .before .before .before .before .before .before .before .before .before .before .before .before .before .before .before .before .before .before .before .before .args in
+    let l = c .before .before .before .before .before .before .link2 .ensures in rw (l .parents, l .odds, l .exits) (joined-gt (pre .down) (pre .first) (pre .second) (c .before .before .before .before .before .before .before .before .before .before .before .before .before .before .before .before .before .before .find .ensures) (c .before .before .before .before .before .before .before .before .before .before .before .before .before .before .find2 .ensures) (args .odd .now) (args .boundary-edge .now) (c .before .before .before .before .before .before .before .before .before .before .if2 .taken))
 
--- src/lib.rt:55:1
 same-length-7 : tie.Need-same-length-7
 same-length-7 c = search needs
 
--- src/lib.rt:55:1
 returns-3 : tie.Need-returns-3
 returns-3 c = joined-eq (c .before .before .before .before .before .before .before .before .before .before .before .before .before .pre .down) (c .before .before .before .before .before .before .before .before .before .before .before .before .before .pre .first) (c .before .before .before .before .before .before .before .before .before .before .before .before .before .pre .second) (c .before .before .before .before .before .before .before .before .find .ensures) (c .before .before .before .before .find2 .ensures) (c .before .before .before .before .before .before .before .before .before .before .before .before .before .args .odd .now) (c .before .before .before .before .before .before .before .before .before .before .before .before .before .args .boundary-edge .now) (omega arith)
 

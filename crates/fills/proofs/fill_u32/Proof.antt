@@ -7,8 +7,6 @@ use Rattle.fills.proofs.Laws.{fill-next, numbers-next}
 use Rattle.lists.specs.Lists.{below, from}
 use Rattle.fills.proofs.fill_u32.Statement.{statement}
 use Rattle.fills.proofs.fill_u32.Tie as tie
-use Rattle.fills.proofs.fill_u32.Reads as reads
-use Rattle.fills.proofs.fill_u32.Lts as lts
 
 abbrev Inv-loop : tie.InvT-loop
 Inv-loop t₀ v i₀ t i = (i ≤ length t₀) × (length t ≡ length t₀) × (t ≡ replicate i v ++ drop i t₀)
@@ -16,35 +14,27 @@ Inv-loop t₀ v i₀ t i = (i ≤ length t₀) × (length t ≡ length t₀) × 
 abbrev μ-loop : tie.MeasureT-loop
 μ-loop t₀ v i₀ t i = length t₀ - i
 
--- src/lib.rt:23:5
 loop-holds : tie.Need-loop-holds Inv-loop μ-loop
 loop-holds c = (omega arith, refl, refl)
 
--- src/lib.rt:24:9
 mul-t : tie.Need-mul-t Inv-loop μ-loop
 mul-t c = omega arith
 
--- src/lib.rt:24:9
 slice-write-t : tie.Need-slice-write-t Inv-loop μ-loop
 slice-write-t c = omega arith
 
--- src/lib.rt:25:9
 add-i : tie.Need-add-i Inv-loop μ-loop
 add-i c = omega arith
 
--- src/lib.rt:23:5
 loop-less : tie.Need-loop-less Inv-loop μ-loop
 loop-less c = omega arith
 
--- src/lib.rt:23:5
 loop-again : tie.Need-loop-again Inv-loop μ-loop
 loop-again c = let l = c .before .loop in (omega arith, simp length-set (l .inv .1), rw (l .inv .2) (fill-next (c .before .before .args .t .now) (l .i) (c .before .before .args .v) (omega arith)))
 
--- src/lib.rt:19:1
 same-length : tie.Need-same-length Inv-loop μ-loop
 same-length c = c .before .loop .inv .1
 
--- src/lib.rt:19:1
 returns : tie.Need-returns Inv-loop μ-loop
 returns c = let e : c .before .loop .i ≡ length (c .before .before .args .t .now) = omega arith in c .before .loop .inv .2 ∙ rw (e, drop-of-length-le (c .before .before .args .t .now) {i = length (c .before .before .args .t .now)} (omega arith)) (append-nil _)
 

@@ -17,10 +17,6 @@ use Rattle.rounds.specs.Passes.{isFree, Counting, Marked}
 use Rattle.rounds.proofs.Laws.{count-marks, free-turn, free-still, true-or}
 use Rattle.rounds.proofs.count.Statement.{statement}
 use Rattle.rounds.proofs.count.Tie as tie
-use Rattle.rounds.proofs.count.Reads as reads
-use Rattle.rounds.proofs.count.Lts as lts
-use Rattle.forest.proofs.find_plain.Reads as find-plain-reads
-use Rattle.rounds.proofs.open_edges.Reads as open-edges-reads
 
 abbrev Inv-loop : tie.InvT-loop
 Inv-loop d edge-u edge-v front m adj-offsets adj-edge far parent sat free₀ bits₀ i₀ free bits i = (i ≤ m) × (length bits ≡ length bits₀) × (length free ≡ length free₀)
@@ -30,71 +26,54 @@ Inv-loop d edge-u edge-v front m adj-offsets adj-edge far parent sat free₀ bit
 abbrev μ-loop : tie.MeasureT-loop
 μ-loop d edge-u edge-v front m adj-offsets adj-edge far parent sat free₀ bits₀ i₀ free bits i = m - i
 
--- src/lib.rt:83:5
 loop-holds : tie.Need-loop-holds Inv-loop μ-loop
 loop-holds c = (omega arith, refl, refl, λ j. refl, λ r h. refl)
 
--- src/lib.rt:84:17
 mul-x : tie.Need-mul-x Inv-loop μ-loop
 mul-x c = omega (arith, c .before .before .before .before .before .before .before .before .before .before .before .before .pre .fronts)
 
--- src/lib.rt:84:17
 shared-slice-read-x : tie.Need-shared-slice-read-x Inv-loop μ-loop
 shared-slice-read-x c = omega (arith, c .before .before .before .before .before .before .before .before .before .before .before .before .before .pre .fronts)
 
--- src/lib.rt:84:17
 cast-x : tie.Need-cast-x Inv-loop μ-loop
 cast-x c = omega (arith, c .before .before .before .before .before .before .before .before .before .before .before .before .before .pre .inside (c .before .before .loop .i) (omega arith), c .before .before .before .before .before .before .before .before .before .before .before .before .before .pre .adjacent .offs)
 
--- src/lib.rt:85:9
 add-i : tie.Need-add-i Inv-loop μ-loop
 add-i c = omega arith
 
--- src/lib.rt:86:21
 mul-start : tie.Need-mul-start Inv-loop μ-loop
 mul-start c = omega (arith, c .before .before .before .before .before .before .before .before .before .before .before .before .before .pre .inside (c .before .before .loop .i) (omega arith), c .before .before .before .before .before .before .before .before .before .before .before .before .before .pre .adjacent .offs)
 
--- src/lib.rt:86:21
 shared-slice-read-start : tie.Need-shared-slice-read-start Inv-loop μ-loop
 shared-slice-read-start c = omega (arith, c .before .before .before .before .before .before .before .before .before .before .before .before .before .before .pre .inside (c .before .before .before .loop .i) (omega arith), c .before .before .before .before .before .before .before .before .before .before .before .before .before .before .pre .adjacent .offs)
 
--- src/lib.rt:86:21
 cast-start : tie.Need-cast-start Inv-loop μ-loop
 cast-start c = omega (arith, adj-rising (c .before .before .before .before .before .before .before .before .before .before .before .before .before .before .pre .adjacent) (getD (c .before .before .before .before .before .before .before .before .before .before .before .before .before .before .args .front .now) (c .before .before .before .loop .i) 0) (c .before .before .before .before .before .before .before .before .before .before .before .before .before .before .pre .inside (c .before .before .before .loop .i) (omega arith)), adj-ends (c .before .before .before .before .before .before .before .before .before .before .before .before .before .before .pre .adjacent) (getD (c .before .before .before .before .before .before .before .before .before .before .before .before .before .before .args .front .now) (c .before .before .before .loop .i) 0) (c .before .before .before .before .before .before .before .before .before .before .before .before .before .before .pre .inside (c .before .before .before .loop .i) (omega arith)))
 
--- src/lib.rt:87:31
 add-end : tie.Need-add-end Inv-loop μ-loop
 add-end c = omega (arith, c .before .before .before .before .before .before .before .before .before .before .before .before .before .before .pre .inside (c .before .before .before .loop .i) (omega arith), c .before .before .before .before .before .before .before .before .before .before .before .before .before .before .pre .adjacent .offs)
 
--- src/lib.rt:87:19
 mul-end : tie.Need-mul-end Inv-loop μ-loop
 mul-end c = omega (arith, c .before .before .before .before .before .before .before .before .before .before .before .before .before .before .pre .inside (c .before .before .before .loop .i) (omega arith), c .before .before .before .before .before .before .before .before .before .before .before .before .before .before .pre .adjacent .offs)
 
--- src/lib.rt:87:19
 shared-slice-read-end : tie.Need-shared-slice-read-end Inv-loop μ-loop
 shared-slice-read-end c = omega (arith, c .before .before .before .before .before .before .before .before .before .before .before .before .before .before .before .pre .inside (c .before .before .before .before .loop .i) (omega arith), c .before .before .before .before .before .before .before .before .before .before .before .before .before .before .before .pre .adjacent .offs)
 
--- src/lib.rt:87:19
 cast-end : tie.Need-cast-end Inv-loop μ-loop
 cast-end c = omega (arith, adj-ends (c .before .before .before .before .before .before .before .before .before .before .before .before .before .before .before .pre .adjacent) (getD (c .before .before .before .before .before .before .before .before .before .before .before .before .before .before .before .args .front .now) (c .before .before .before .before .loop .i) 0) (c .before .before .before .before .before .before .before .before .before .before .before .before .before .before .before .pre .inside (c .before .before .before .before .loop .i) (omega arith)))
 
--- src/lib.rt:88:13
 open-edges-requires : tie.Need-open-edges-requires Inv-loop μ-loop
 open-edges-requires c κs = record { rising = adj-rising (c .before .before .before .before .before .before .before .before .before .before .before .before .before .before .before .before .pre .adjacent) (getD (c .before .before .before .before .before .before .before .before .before .before .before .before .before .before .before .before .args .front .now) (c .before .before .before .before .before .loop .i) 0) (c .before .before .before .before .before .before .before .before .before .before .before .before .before .before .before .before .pre .inside (c .before .before .before .before .before .loop .i) (omega arith)); ends = adj-ends (c .before .before .before .before .before .before .before .before .before .before .before .before .before .before .before .before .pre .adjacent) (getD (c .before .before .before .before .before .before .before .before .before .before .before .before .before .before .before .before .args .front .now) (c .before .before .before .before .before .loop .i) 0) (c .before .before .before .before .before .before .before .before .before .before .before .before .before .before .before .before .pre .inside (c .before .before .before .before .before .loop .i) (omega arith)); inside = λ k a b. omega (arith, adj-inside (c .before .before .before .before .before .before .before .before .before .before .before .before .before .before .before .before .pre .adjacent) (getD (c .before .before .before .before .before .before .before .before .before .before .before .before .before .before .before .before .args .front .now) (c .before .before .before .before .before .loop .i) 0) (c .before .before .before .before .before .before .before .before .before .before .before .before .before .before .before .before .pre .inside (c .before .before .before .before .before .loop .i) (omega arith)) k a b, c .before .before .before .before .before .before .before .before .before .before .before .before .before .before .before .before .pre .sats); words = omega (arith, c .before .before .before .before .before .before .before .before .before .before .before .before .before .before .before .before .pre .words, c .before .before .before .before .before .loop .inv .1) }
 
--- src/lib.rt:90:17
 find-plain-requires : tie.Need-find-plain-requires Inv-loop μ-loop
 find-plain-requires c κs = (c .before .before .before .before .before .before .before .before .before .before .before .before .before .before .before .before .before .before .before .before .pre .down, c .before .before .before .before .before .before .before .before .before .before .before .before .before .before .before .before .before .before .before .before .pre .inside (c .before .before .before .before .before .before .before .before .before .loop .i) (omega arith))
 
--- src/lib.rt:91:13
 slice-write-free : tie.Need-slice-write-free Inv-loop μ-loop
 slice-write-free c = omega (arith, c .find-plain .ensures, label-in (c .before .before .before .before .before .before .before .before .before .before .before .before .before .before .before .before .before .before .before .before .before .pre .down) (getD (c .before .before .before .before .before .before .before .before .before .before .before .before .before .before .before .before .before .before .before .before .before .args .front .now) (c .before .before .before .before .before .before .before .before .before .before .loop .i) 0) (c .before .before .before .before .before .before .before .before .before .before .before .before .before .before .before .before .before .before .before .before .before .pre .inside (c .before .before .before .before .before .before .before .before .before .before .loop .i) (omega arith)), c .before .before .before .before .before .before .before .before .before .before .before .before .before .before .before .before .before .before .before .before .before .pre .frees, c .before .before .before .before .before .before .before .before .before .before .loop .inv .2)
 
--- src/lib.rt:83:5
 loop-less : tie.Need-loop-less Inv-loop μ-loop
 loop-less c = omega arith
 
--- src/lib.rt:83:5
 loop-again : tie.Need-loop-again Inv-loop μ-loop
 loop-again c = (
   omega arith,
@@ -108,11 +87,9 @@ loop-again c = (
   ),
 )
 
--- src/lib.rt:83:5
 loop-less-2 : tie.Need-loop-less-2 Inv-loop μ-loop
 loop-less-2 c = omega arith
 
--- src/lib.rt:83:5
 loop-again-2 : tie.Need-loop-again-2 Inv-loop μ-loop
 loop-again-2 c = (
   omega arith,
@@ -122,15 +99,12 @@ loop-again-2 c = (
   λ r h. free-still (c .before .before .before .before .before .before .before .before .before .before .before .before .before .before .before .before .before .before .before .before .args .front .now) (c .before .before .before .before .before .before .before .before .before .loop .i) (c .before .before .before .before .before .before .before .before .before .before .before .before .before .before .before .before .before .before .before .before .args .m) (omega arith) (c .before .before .before .before .before .before .before .before .before .before .before .before .before .before .before .before .before .before .before .before .pre .fronts) (λ x. getD (labels (c .before .before .before .before .before .before .before .before .before .before .before .before .before .before .before .before .before .before .before .before .args .d) (c .before .before .before .before .before .before .before .before .before .before .before .before .before .before .before .before .before .before .before .before .args .parent .now)) x 0) (λ x. any (isFree (c .before .before .before .before .before .before .before .before .before .before .before .before .before .before .before .before .before .before .before .before .args .sat .now)) (star (c .before .before .before .before .before .before .before .before .before .before .before .before .before .before .before .before .before .before .before .before .args .edge-u .now) (c .before .before .before .before .before .before .before .before .before .before .before .before .before .before .before .before .before .before .before .before .args .edge-v .now) x)) r (getD (c .before .before .before .before .before .before .before .before .before .loop .free) r false) _ (c .before .before .before .before .before .before .before .before .before .loop .inv .4 r h) (sym (c .before .before .before .open-edges .ensures .found ∙ ap (any (isFree (c .before .before .before .before .before .before .before .before .before .before .before .before .before .before .before .before .before .before .before .before .args .sat .now))) (adj-slice (c .before .before .before .before .before .before .before .before .before .before .before .before .before .before .before .before .before .before .before .before .pre .adjacent) (getD (c .before .before .before .before .before .before .before .before .before .before .before .before .before .before .before .before .before .before .before .before .args .front .now) (c .before .before .before .before .before .before .before .before .before .loop .i) 0) (c .before .before .before .before .before .before .before .before .before .before .before .before .before .before .before .before .before .before .before .before .pre .inside (c .before .before .before .before .before .before .before .before .before .loop .i) (omega arith)))) ∙ c .if1 .left),
 )
 
--- src/lib.rt:65:1
 same-length : tie.Need-same-length Inv-loop μ-loop
 same-length c = c .before .loop .inv .2
 
--- src/lib.rt:65:1
 same-length-2 : tie.Need-same-length-2 Inv-loop μ-loop
 same-length-2 c = c .before .loop .inv .1
 
--- src/lib.rt:65:1
 returns : tie.Need-returns Inv-loop μ-loop
 unfolding any
 returns c = let q : c .before .loop .i ≡ c .before .before .before .before .before .before .before .before .before .before .before .before .args .m = omega arith in let z = slice-empty (c .before .before .before .before .before .before .before .before .before .before .before .before .args .m) (c .before .before .before .before .before .before .before .before .before .before .before .before .args .front .now) in record {

@@ -9,9 +9,6 @@ use Rattle.adjacency.proofs.Laws.{u-in, v-in}
 use Rattle.rounds.specs.Passes.{liveEnds, Taking, Taken}
 use Rattle.rounds.proofs.counts.Statement.{statement}
 use Rattle.rounds.proofs.counts.Tie as tie
-use Rattle.rounds.proofs.counts.Reads as reads
-use Rattle.rounds.proofs.counts.Lts as lts
-use Rattle.rounds.proofs.live_ends.Reads as live-ends-reads
 
 abbrev Inv-loop : tie.InvT-loop
 Inv-loop d edge-u edge-v live touched m cnt₀ i₀ cnt i = (i ≤ m) × (length cnt ≡ length cnt₀) × ((k : ℕ) → k < i → getD cnt k 0 ≡ liveEnds live (getD edge-u (getD touched k 0) 0) (getD edge-v (getD touched k 0) 0))
@@ -19,63 +16,48 @@ Inv-loop d edge-u edge-v live touched m cnt₀ i₀ cnt i = (i ≤ m) × (length
 abbrev μ-loop : tie.MeasureT-loop
 μ-loop d edge-u edge-v live touched m cnt₀ i₀ cnt i = m - i
 
--- src/lib.rt:135:5
 loop-holds : tie.Need-loop-holds Inv-loop μ-loop
 loop-holds c = (omega arith, refl, λ k h. absurd (not-suc-le-zero h))
 
--- src/lib.rt:136:17
 mul-e : tie.Need-mul-e Inv-loop μ-loop
 mul-e c = omega (arith, c .before .before .before .before .before .before .before .pre .touches)
 
--- src/lib.rt:136:17
 shared-slice-read-e : tie.Need-shared-slice-read-e Inv-loop μ-loop
 shared-slice-read-e c = omega (arith, c .before .before .before .before .before .before .before .before .pre .touches)
 
--- src/lib.rt:136:17
 cast-e : tie.Need-cast-e Inv-loop μ-loop
 cast-e c = omega (arith, c .before .before .before .before .before .before .before .before .pre .inside (c .before .before .loop .i) (omega arith))
 
--- src/lib.rt:137:34
 mul-live-ends : tie.Need-mul-live-ends Inv-loop μ-loop
 mul-live-ends c = omega (arith, c .before .before .before .before .before .before .before .before .pre .inside (c .before .before .loop .i) (omega arith))
 
--- src/lib.rt:137:34
 shared-slice-read-live-ends : tie.Need-shared-slice-read-live-ends Inv-loop μ-loop
 shared-slice-read-live-ends c = omega (arith, c .before .before .before .before .before .before .before .before .before .pre .inside (c .before .before .before .loop .i) (omega arith))
 
--- src/lib.rt:137:45
 mul-live-ends-2 : tie.Need-mul-live-ends-2 Inv-loop μ-loop
 mul-live-ends-2 c = omega (arith, c .before .before .before .before .before .before .before .before .before .pre .inside (c .before .before .before .loop .i) (omega arith), c .before .before .before .before .before .before .before .before .before .pre .ends .as-many)
 
--- src/lib.rt:137:45
 shared-slice-read-live-ends-2 : tie.Need-shared-slice-read-live-ends-2 Inv-loop μ-loop
 shared-slice-read-live-ends-2 c = omega (arith, c .before .before .before .before .before .before .before .before .before .before .pre .inside (c .before .before .before .before .loop .i) (omega arith), c .before .before .before .before .before .before .before .before .before .before .pre .ends .as-many)
 
--- src/lib.rt:137:18
 live-ends-requires : tie.Need-live-ends-requires Inv-loop μ-loop
 live-ends-requires c κs = (omega (arith, u-in (c .before .before .before .before .before .before .before .before .before .before .args .d) (c .before .before .before .before .before .before .before .before .before .before .args .edge-u .now) (c .before .before .before .before .before .before .before .before .before .before .args .edge-v .now) (c .before .before .before .before .before .before .before .before .before .before .pre .ends) (getD (c .before .before .before .before .before .before .before .before .before .before .args .touched .now) (c .before .before .before .before .loop .i) 0) (c .before .before .before .before .before .before .before .before .before .before .pre .inside (c .before .before .before .before .loop .i) (omega arith)), c .before .before .before .before .before .before .before .before .before .before .pre .lives), λ n. omega (arith, v-in (c .before .before .before .before .before .before .before .before .before .before .args .d) (c .before .before .before .before .before .before .before .before .before .before .args .edge-u .now) (c .before .before .before .before .before .before .before .before .before .before .args .edge-v .now) (c .before .before .before .before .before .before .before .before .before .before .pre .ends) (getD (c .before .before .before .before .before .before .before .before .before .before .args .touched .now) (c .before .before .before .before .loop .i) 0) (c .before .before .before .before .before .before .before .before .before .before .pre .inside (c .before .before .before .before .loop .i) (omega arith)) n, c .before .before .before .before .before .before .before .before .before .before .pre .lives))
 
--- src/lib.rt:137:9
 slice-write-cnt : tie.Need-slice-write-cnt Inv-loop μ-loop
 slice-write-cnt c = omega (arith, c .before .before .before .before .before .before .before .before .before .before .before .pre .cnts, c .before .before .before .before .before .loop .inv .1)
 
--- src/lib.rt:138:9
 add-i : tie.Need-add-i Inv-loop μ-loop
 add-i c = omega (arith, c .before .before .before .before .before .before .before .before .before .before .before .pre .touches)
 
--- src/lib.rt:135:5
 loop-less : tie.Need-loop-less Inv-loop μ-loop
 loop-less c = omega arith
 
--- src/lib.rt:135:5
 loop-again : tie.Need-loop-again Inv-loop μ-loop
 loop-again c = (omega arith, simp length-set (c .before .before .before .before .before .loop .inv .1), λ k h. ⊎-elim (λ r. r .1 ∙ c .live-ends .ensures ∙ rw (r .0)) (λ r. r .1 ∙ c .before .before .before .before .before .loop .inv .2 k (omega (arith, r .0))) (at-set (c .before .before .before .before .before .loop .cnt) (c .before .before .before .before .before .loop .i) (c .live-ends .result) 0 k (omega (arith, c .before .before .before .before .before .before .before .before .before .before .before .pre .cnts, c .before .before .before .before .before .loop .inv .1))))
 
--- src/lib.rt:122:1
 same-length : tie.Need-same-length Inv-loop μ-loop
 same-length c = c .before .loop .inv .1
 
--- src/lib.rt:122:1
 returns : tie.Need-returns Inv-loop μ-loop
 returns c = let q : c .before .loop .i ≡ c .before .before .before .before .before .before .before .args .m = omega arith in record { counts = rw q at (c .before .loop .inv .2) }
 

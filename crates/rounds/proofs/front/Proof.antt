@@ -9,9 +9,6 @@ use Rattle.rounds.specs.Passes.{warm, Fronting, Fronted}
 use Rattle.rounds.proofs.Laws.{live-step, front-hot, front-skip}
 use Rattle.rounds.proofs.front.Statement.{statement}
 use Rattle.rounds.proofs.front.Tie as tie
-use Rattle.rounds.proofs.front.Reads as reads
-use Rattle.rounds.proofs.front.Lts as lts
-use Rattle.forest.proofs.compress.Reads as compress-reads
 
 abbrev Inv-loop : tie.InvT-loop
 Inv-loop d seen n parent₀ hot live₀ front₀ m₀ i₀ parent live front m i = (i ≤ n) × (m ≤ i) × Down d parent × (labels d parent ≡ labels d parent₀) × (length parent ≡ length parent₀) × (length live ≡ length live₀) × (length front ≡ length front₀)
@@ -20,60 +17,46 @@ Inv-loop d seen n parent₀ hot live₀ front₀ m₀ i₀ parent live front m i
 abbrev μ-loop : tie.MeasureT-loop
 μ-loop d seen n parent₀ hot live₀ front₀ m₀ i₀ parent live front m i = n - i
 
--- src/lib.rt:30:5
 loop-holds : tie.Need-loop-holds Inv-loop μ-loop
 unfolding member filter
 loop-holds c = (omega arith, omega arith, c .before .before .before .before .before .pre .down, refl, refl, refl, refl, λ x h. refl, refl)
 
--- src/lib.rt:31:17
 mul-x : tie.Need-mul-x Inv-loop μ-loop
 mul-x c = omega (arith, c .before .before .before .before .before .before .before .pre .seens)
 
--- src/lib.rt:31:17
 shared-slice-read-x : tie.Need-shared-slice-read-x Inv-loop μ-loop
 shared-slice-read-x c = omega (arith, c .before .before .before .before .before .before .before .before .pre .seens)
 
--- src/lib.rt:31:17
 cast-x : tie.Need-cast-x Inv-loop μ-loop
 cast-x c = omega (arith, c .before .before .before .before .before .before .before .before .pre .inside (c .before .before .loop .i) (omega arith), c .before .before .before .before .before .before .before .before .pre .small)
 
--- src/lib.rt:32:9
 add-i : tie.Need-add-i Inv-loop μ-loop
 add-i c = omega arith
 
--- src/lib.rt:33:13
 compress-requires : tie.Need-compress-requires Inv-loop μ-loop
 compress-requires c κs = (c .before .before .before .loop .inv .2, (c .before .before .before .before .before .before .before .before .before .pre .inside (c .before .before .before .loop .i) (omega arith), c .before .before .before .before .before .before .before .before .before .pre .small))
 
--- src/lib.rt:34:17
 shared-slice-read-h : tie.Need-shared-slice-read-h Inv-loop μ-loop
 shared-slice-read-h c = omega (arith, c .before .before .before .before .before .before .before .before .before .before .before .before .before .pre .hots, c .before .before .before .compress .ensures .inside)
 
--- src/lib.rt:35:9
 slice-write-live : tie.Need-slice-write-live Inv-loop μ-loop
 slice-write-live c = omega (arith, c .before .before .before .before .before .before .before .before .before .before .before .before .before .pre .lives, c .before .before .before .before .before .before .before .loop .inv .5, c .before .before .before .before .before .before .before .before .before .before .before .before .before .pre .inside (c .before .before .before .before .before .before .before .loop .i) (omega arith))
 
--- src/lib.rt:36:20
 cast-front : tie.Need-cast-front Inv-loop μ-loop
 cast-front c = omega (arith, c .before .before .before .before .before .before .before .before .before .before .before .before .before .pre .inside (c .before .before .before .before .before .before .before .loop .i) (omega arith), c .before .before .before .before .before .before .before .before .before .before .before .before .before .pre .small)
 
--- src/lib.rt:36:9
 mul-front : tie.Need-mul-front Inv-loop μ-loop
 mul-front c = omega (arith, c .before .before .before .before .before .before .before .before .before .before .before .before .before .pre .fronts, c .before .before .before .before .before .before .before .loop .inv .6)
 
--- src/lib.rt:36:9
 slice-write-front : tie.Need-slice-write-front Inv-loop μ-loop
 slice-write-front c = omega (arith, c .before .before .before .before .before .before .before .before .before .before .before .before .before .pre .fronts, c .before .before .before .before .before .before .before .loop .inv .6)
 
--- src/lib.rt:38:13
 add-m : tie.Need-add-m Inv-loop μ-loop
 add-m c = omega arith
 
--- src/lib.rt:30:5
 loop-less : tie.Need-loop-less Inv-loop μ-loop
 loop-less c = omega arith
 
--- src/lib.rt:30:5
 loop-again : tie.Need-loop-again Inv-loop μ-loop
 loop-again c = (
   omega arith,
@@ -87,11 +70,9 @@ loop-again c = (
   front-hot (c .before .before .before .before .before .before .before .before .before .before .before .before .before .before .args .seen .now) (c .before .before .before .before .before .before .before .before .loop .i) (omega (arith, c .before .before .before .before .before .before .before .before .before .before .before .before .before .before .pre .seens)) (warm (c .before .before .before .before .before .before .before .before .before .before .before .before .before .before .args .d) (c .before .before .before .before .before .before .before .before .before .before .before .before .before .before .args .parent .now) (c .before .before .before .before .before .before .before .before .before .before .before .before .before .before .args .hot .now)) (c .before .before .before .before .before .before .before .before .loop .m) (c .before .before .before .before .before .before .before .before .loop .front) (c .before .before .before .before .before .before .before .before .loop .inv .8) (omega (arith, c .before .before .before .before .before .before .before .before .before .before .before .before .before .before .pre .fronts, c .before .before .before .before .before .before .before .before .loop .inv .6)) (sym (ap (λ r. getD (c .before .before .before .before .before .before .before .before .before .before .before .before .before .before .args .hot .now) r false) (c .before .before .before .before .compress .ensures .is ∙ ap (λ (l : mathlib.Core.List.List ℕ). getD l (getD (c .before .before .before .before .before .before .before .before .before .before .before .before .before .before .args .seen .now) (c .before .before .before .before .before .before .before .before .loop .i) 0) 0) (c .before .before .before .before .before .before .before .before .loop .inv .3))) ∙ c .if1 .taken),
 )
 
--- src/lib.rt:30:5
 loop-less-2 : tie.Need-loop-less-2 Inv-loop μ-loop
 loop-less-2 c = omega arith
 
--- src/lib.rt:30:5
 loop-again-2 : tie.Need-loop-again-2 Inv-loop μ-loop
 loop-again-2 c = (
   omega arith,
@@ -105,19 +86,15 @@ loop-again-2 c = (
   front-skip (c .before .before .before .before .before .before .before .before .before .before .before .before .before .before .args .seen .now) (c .before .before .before .before .before .before .before .before .loop .i) (omega (arith, c .before .before .before .before .before .before .before .before .before .before .before .before .before .before .pre .seens)) (warm (c .before .before .before .before .before .before .before .before .before .before .before .before .before .before .args .d) (c .before .before .before .before .before .before .before .before .before .before .before .before .before .before .args .parent .now) (c .before .before .before .before .before .before .before .before .before .before .before .before .before .before .args .hot .now)) (c .before .before .before .before .before .before .before .before .loop .m) (c .before .before .before .before .before .before .before .before .loop .front) (c .before .before .before .before .before .before .before .before .loop .inv .8) (sym (ap (λ r. getD (c .before .before .before .before .before .before .before .before .before .before .before .before .before .before .args .hot .now) r false) (c .before .before .before .before .compress .ensures .is ∙ ap (λ (l : mathlib.Core.List.List ℕ). getD l (getD (c .before .before .before .before .before .before .before .before .before .before .before .before .before .before .args .seen .now) (c .before .before .before .before .before .before .before .before .loop .i) 0) 0) (c .before .before .before .before .before .before .before .before .loop .inv .3))) ∙ c .if1 .left),
 )
 
--- src/lib.rt:16:1
 same-length : tie.Need-same-length Inv-loop μ-loop
 same-length c = c .before .loop .inv .4
 
--- src/lib.rt:16:1
 same-length-2 : tie.Need-same-length-2 Inv-loop μ-loop
 same-length-2 c = c .before .loop .inv .5
 
--- src/lib.rt:16:1
 same-length-3 : tie.Need-same-length-3 Inv-loop μ-loop
 same-length-3 c = c .before .loop .inv .6
 
--- src/lib.rt:16:1
 returns : tie.Need-returns Inv-loop μ-loop
 returns c = let q : c .before .loop .i ≡ c .before .before .before .before .before .before .before .args .n = omega arith in record { down = c .before .loop .inv .2; kept = c .before .loop .inv .3; live-is = rw q at (c .before .loop .inv .7); few = omega arith; front-is = rw q at (c .before .loop .inv .8) }
 

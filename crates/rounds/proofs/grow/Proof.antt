@@ -10,10 +10,6 @@ use Rattle.rounds.specs.Passes.{growIn, ripeIn, Growing, Ripened}
 use Rattle.rounds.proofs.Laws.{grow-turn, grow-end, ripe-turn, ripe-skip, ripe-end}
 use Rattle.rounds.proofs.grow.Statement.{statement}
 use Rattle.rounds.proofs.grow.Tie as tie
-use Rattle.rounds.proofs.grow.Reads as reads
-use Rattle.rounds.proofs.grow.Lts as lts
-use Rattle.rounds.proofs.moved.Reads as moved-reads
-use Rattle.rounds.proofs.reaches.Reads as reaches-reads
 
 abbrev Inv-loop : tie.InvT-loop
 Inv-loop touched cnt m step edge edge-weight growth₀ fresh₀ k₀ i₀ growth fresh k i = (i ≤ m) × (k ≤ i) × (length growth ≡ length growth₀) × (length fresh ≡ length fresh₀)
@@ -23,79 +19,60 @@ Inv-loop touched cnt m step edge edge-weight growth₀ fresh₀ k₀ i₀ growth
 abbrev μ-loop : tie.MeasureT-loop
 μ-loop touched cnt m step edge edge-weight growth₀ fresh₀ k₀ i₀ growth fresh k i = m - i
 
--- src/lib.rt:254:5
 loop-holds : tie.Need-loop-holds Inv-loop μ-loop
 loop-holds c = (omega arith, omega arith, refl, refl, refl, refl)
 
--- src/lib.rt:255:17
 mul-e : tie.Need-mul-e Inv-loop μ-loop
 mul-e c = omega (arith, c .before .before .before .before .before .before .before .pre .0 .inside (c .before .loop .i) (omega arith), c .before .before .before .before .before .before .before .pre .0 .touches, c .before .before .before .before .before .before .before .pre .0 .cnts, c .before .before .before .before .before .before .before .pre .1 .0, c .before .before .before .before .before .before .before .pre .1 .1, c .before .loop .inv .0, c .before .loop .inv .1, c .before .loop .inv .2, c .before .loop .inv .3)
 
--- src/lib.rt:255:17
 shared-slice-read-e : tie.Need-shared-slice-read-e Inv-loop μ-loop
 shared-slice-read-e c = omega (arith, c .before .before .before .before .before .before .before .before .pre .0 .inside (c .before .before .loop .i) (omega arith), c .before .before .before .before .before .before .before .before .pre .0 .touches, c .before .before .before .before .before .before .before .before .pre .0 .cnts, c .before .before .before .before .before .before .before .before .pre .1 .0, c .before .before .before .before .before .before .before .before .pre .1 .1, c .before .before .loop .inv .0, c .before .before .loop .inv .1, c .before .before .loop .inv .2, c .before .before .loop .inv .3)
 
--- src/lib.rt:256:17
 cast-x : tie.Need-cast-x Inv-loop μ-loop
 cast-x c = omega (arith, c .before .before .before .before .before .before .before .before .pre .0 .inside (c .before .before .loop .i) (omega arith), c .before .before .before .before .before .before .before .before .pre .0 .touches, c .before .before .before .before .before .before .before .before .pre .0 .cnts, c .before .before .before .before .before .before .before .before .pre .1 .0, c .before .before .before .before .before .before .before .before .pre .1 .1, c .before .before .loop .inv .0, c .before .before .loop .inv .1, c .before .before .loop .inv .2, c .before .before .loop .inv .3)
 
--- src/lib.rt:257:25
 mul-moved : tie.Need-mul-moved Inv-loop μ-loop
 mul-moved c = omega (arith, c .before .before .before .before .before .before .before .before .pre .0 .inside (c .before .before .loop .i) (omega arith), c .before .before .before .before .before .before .before .before .pre .0 .touches, c .before .before .before .before .before .before .before .before .pre .0 .cnts, c .before .before .before .before .before .before .before .before .pre .1 .0, c .before .before .before .before .before .before .before .before .pre .1 .1, c .before .before .loop .inv .0, c .before .before .loop .inv .1, c .before .before .loop .inv .2, c .before .before .loop .inv .3)
 
--- src/lib.rt:257:25
 slice-read-moved : tie.Need-slice-read-moved Inv-loop μ-loop
 slice-read-moved c = omega (arith, c .before .before .before .before .before .before .before .before .before .pre .0 .inside (c .before .before .before .loop .i) (omega arith), c .before .before .before .before .before .before .before .before .before .pre .0 .touches, c .before .before .before .before .before .before .before .before .before .pre .0 .cnts, c .before .before .before .before .before .before .before .before .before .pre .1 .0, c .before .before .before .before .before .before .before .before .before .pre .1 .1, c .before .before .before .loop .inv .0, c .before .before .before .loop .inv .1, c .before .before .before .loop .inv .2, c .before .before .before .loop .inv .3)
 
--- src/lib.rt:257:36
 shared-slice-read-moved : tie.Need-shared-slice-read-moved Inv-loop μ-loop
 shared-slice-read-moved c = omega (arith, c .before .before .before .before .before .before .before .before .before .before .pre .0 .inside (c .before .before .before .before .loop .i) (omega arith), c .before .before .before .before .before .before .before .before .before .before .pre .0 .touches, c .before .before .before .before .before .before .before .before .before .before .pre .0 .cnts, c .before .before .before .before .before .before .before .before .before .before .pre .1 .0, c .before .before .before .before .before .before .before .before .before .before .pre .1 .1, c .before .before .before .before .loop .inv .0, c .before .before .before .before .loop .inv .1, c .before .before .before .before .loop .inv .2, c .before .before .before .before .loop .inv .3)
 
--- src/lib.rt:257:13
 moved-requires : tie.Need-moved-requires Inv-loop μ-loop
 moved-requires c κs = tt
 
--- src/lib.rt:258:9
 add-i : tie.Need-add-i Inv-loop μ-loop
 add-i c = omega (arith, c .before .before .before .before .before .before .before .before .before .before .before .pre .0 .inside (c .before .before .before .before .before .loop .i) (omega arith), c .before .before .before .before .before .before .before .before .before .before .before .pre .0 .touches, c .before .before .before .before .before .before .before .before .before .before .before .pre .0 .cnts, c .before .before .before .before .before .before .before .before .before .before .before .pre .1 .0, c .before .before .before .before .before .before .before .before .before .before .before .pre .1 .1, c .before .before .before .before .before .loop .inv .0, c .before .before .before .before .before .loop .inv .1, c .before .before .before .before .before .loop .inv .2, c .before .before .before .before .before .loop .inv .3)
 
--- src/lib.rt:259:9
 mul-growth : tie.Need-mul-growth Inv-loop μ-loop
 mul-growth c = omega (arith, c .before .before .before .before .before .before .before .before .before .before .before .pre .0 .inside (c .before .before .before .before .before .loop .i) (omega arith), c .before .before .before .before .before .before .before .before .before .before .before .pre .0 .touches, c .before .before .before .before .before .before .before .before .before .before .before .pre .0 .cnts, c .before .before .before .before .before .before .before .before .before .before .before .pre .1 .0, c .before .before .before .before .before .before .before .before .before .before .before .pre .1 .1, c .before .before .before .before .before .loop .inv .0, c .before .before .before .before .before .loop .inv .1, c .before .before .before .before .before .loop .inv .2, c .before .before .before .before .before .loop .inv .3)
 
--- src/lib.rt:259:9
 slice-write-growth : tie.Need-slice-write-growth Inv-loop μ-loop
 slice-write-growth c = omega (arith, c .before .before .before .before .before .before .before .before .before .before .before .pre .0 .inside (c .before .before .before .before .before .loop .i) (omega arith), c .before .before .before .before .before .before .before .before .before .before .before .pre .1 .0, c .before .before .before .before .before .loop .inv .2)
 
--- src/lib.rt:260:37
 mul-reaches : tie.Need-mul-reaches Inv-loop μ-loop
 mul-reaches c = omega (arith, c .before .before .before .before .before .before .before .before .before .before .before .pre .0 .inside (c .before .before .before .before .before .loop .i) (omega arith), c .before .before .before .before .before .before .before .before .before .before .before .pre .0 .touches, c .before .before .before .before .before .before .before .before .before .before .before .pre .0 .cnts, c .before .before .before .before .before .before .before .before .before .before .before .pre .1 .0, c .before .before .before .before .before .before .before .before .before .before .before .pre .1 .1, c .before .before .before .before .before .loop .inv .0, c .before .before .before .before .before .loop .inv .1, c .before .before .before .before .before .loop .inv .2, c .before .before .before .before .before .loop .inv .3)
 
--- src/lib.rt:260:37
 shared-slice-read-reaches : tie.Need-shared-slice-read-reaches Inv-loop μ-loop
 shared-slice-read-reaches c = omega (arith, c .before .before .before .before .before .before .before .before .before .before .before .before .pre .0 .inside (c .before .before .before .before .before .before .loop .i) (omega arith), c .before .before .before .before .before .before .before .before .before .before .before .before .pre .0 .touches, c .before .before .before .before .before .before .before .before .before .before .before .before .pre .0 .cnts, c .before .before .before .before .before .before .before .before .before .before .before .before .pre .1 .0, c .before .before .before .before .before .before .before .before .before .before .before .before .pre .1 .1, c .before .before .before .before .before .before .loop .inv .0, c .before .before .before .before .before .before .loop .inv .1, c .before .before .before .before .before .before .loop .inv .2, c .before .before .before .before .before .before .loop .inv .3)
 
--- src/lib.rt:260:13
 reaches-requires : tie.Need-reaches-requires Inv-loop μ-loop
 reaches-requires c κs = tt
 
--- src/lib.rt:261:9
 mul-fresh : tie.Need-mul-fresh Inv-loop μ-loop
 mul-fresh c = omega (arith, c .before .before .before .before .before .before .before .before .before .before .before .before .before .pre .0 .inside (c .before .before .before .before .before .before .before .loop .i) (omega arith), c .before .before .before .before .before .before .before .before .before .before .before .before .before .pre .0 .touches, c .before .before .before .before .before .before .before .before .before .before .before .before .before .pre .0 .cnts, c .before .before .before .before .before .before .before .before .before .before .before .before .before .pre .1 .0, c .before .before .before .before .before .before .before .before .before .before .before .before .before .pre .1 .1, c .before .before .before .before .before .before .before .loop .inv .0, c .before .before .before .before .before .before .before .loop .inv .1, c .before .before .before .before .before .before .before .loop .inv .2, c .before .before .before .before .before .before .before .loop .inv .3)
 
--- src/lib.rt:261:9
 slice-write-fresh : tie.Need-slice-write-fresh Inv-loop μ-loop
 slice-write-fresh c = omega (arith, c .before .before .before .before .before .before .before .before .before .before .before .before .before .pre .0 .inside (c .before .before .before .before .before .before .before .loop .i) (omega arith), c .before .before .before .before .before .before .before .before .before .before .before .before .before .pre .0 .touches, c .before .before .before .before .before .before .before .before .before .before .before .before .before .pre .0 .cnts, c .before .before .before .before .before .before .before .before .before .before .before .before .before .pre .1 .0, c .before .before .before .before .before .before .before .before .before .before .before .before .before .pre .1 .1, c .before .before .before .before .before .before .before .loop .inv .0, c .before .before .before .before .before .before .before .loop .inv .1, c .before .before .before .before .before .before .before .loop .inv .2, c .before .before .before .before .before .before .before .loop .inv .3)
 
--- src/lib.rt:263:13
 add-k : tie.Need-add-k Inv-loop μ-loop
 add-k c = omega (arith, c .before .before .before .before .before .before .before .before .before .before .before .before .before .before .pre .0 .inside (c .before .before .before .before .before .before .before .before .loop .i) (omega arith), c .before .before .before .before .before .before .before .before .before .before .before .before .before .before .pre .0 .touches, c .before .before .before .before .before .before .before .before .before .before .before .before .before .before .pre .0 .cnts, c .before .before .before .before .before .before .before .before .before .before .before .before .before .before .pre .1 .0, c .before .before .before .before .before .before .before .before .before .before .before .before .before .before .pre .1 .1, c .before .before .before .before .before .before .before .before .loop .inv .0, c .before .before .before .before .before .before .before .before .loop .inv .1, c .before .before .before .before .before .before .before .before .loop .inv .2, c .before .before .before .before .before .before .before .before .loop .inv .3)
 
--- src/lib.rt:254:5
 loop-less : tie.Need-loop-less Inv-loop μ-loop
 loop-less c = omega arith
 
--- src/lib.rt:254:5
 loop-again : tie.Need-loop-again Inv-loop μ-loop
 loop-again c = (
   omega arith,
@@ -106,11 +83,9 @@ loop-again c = (
   ripe-turn (c .before .before .before .before .before .before .before .before .before .before .before .before .before .before .args .touched .now) (c .before .before .before .before .before .before .before .before .before .before .before .before .before .before .args .cnt .now) (c .before .before .before .before .before .before .before .before .loop .i) (c .before .before .before .before .before .before .before .before .before .before .before .before .before .before .args .m) (omega arith) (c .before .before .before .before .before .before .before .before .before .before .before .before .before .before .pre .0 .touches) (c .before .before .before .before .before .before .before .before .before .before .before .before .before .before .pre .0 .cnts) (c .before .before .before .before .before .before .before .before .before .before .before .before .before .before .args .edge) (c .before .before .before .before .before .before .before .before .before .before .before .before .before .before .args .step) (c .before .before .before .before .before .before .before .before .before .before .before .before .before .before .args .edge-weight .now) (c .before .before .before .before .before .before .before .before .loop .growth) (c .before .before .before .before .before .before .before .before .loop .k) (c .before .before .before .before .before .before .before .before .loop .fresh) _ (c .before .before .before .before .before .before .before .before .loop .inv .5) (c .before .before .before .moved .result) (c .before .before .before .moved .ensures) (omega (arith, c .before .before .before .before .before .before .before .before .before .before .before .before .before .before .pre .1 .1, c .before .before .before .before .before .before .before .before .loop .inv .3)) (sym (c .before .reaches .ensures) ∙ c .if1 .taken),
 )
 
--- src/lib.rt:254:5
 loop-less-2 : tie.Need-loop-less-2 Inv-loop μ-loop
 loop-less-2 c = omega (arith, c .before .before .before .before .before .before .before .before .before .before .before .before .before .before .pre .0 .inside (c .before .before .before .before .before .before .before .before .loop .i) (omega arith), c .before .before .before .before .before .before .before .before .before .before .before .before .before .before .pre .0 .touches, c .before .before .before .before .before .before .before .before .before .before .before .before .before .before .pre .0 .cnts, c .before .before .before .before .before .before .before .before .before .before .before .before .before .before .pre .1 .0, c .before .before .before .before .before .before .before .before .before .before .before .before .before .before .pre .1 .1, c .before .before .before .before .before .before .before .before .loop .inv .0, c .before .before .before .before .before .before .before .before .loop .inv .1, c .before .before .before .before .before .before .before .before .loop .inv .2, c .before .before .before .before .before .before .before .before .loop .inv .3)
 
--- src/lib.rt:254:5
 loop-again-2 : tie.Need-loop-again-2 Inv-loop μ-loop
 loop-again-2 c = (
   omega arith,
@@ -121,15 +96,12 @@ loop-again-2 c = (
   ripe-skip (c .before .before .before .before .before .before .before .before .before .before .before .before .before .before .args .touched .now) (c .before .before .before .before .before .before .before .before .before .before .before .before .before .before .args .cnt .now) (c .before .before .before .before .before .before .before .before .loop .i) (c .before .before .before .before .before .before .before .before .before .before .before .before .before .before .args .m) (omega arith) (c .before .before .before .before .before .before .before .before .before .before .before .before .before .before .pre .0 .touches) (c .before .before .before .before .before .before .before .before .before .before .before .before .before .before .pre .0 .cnts) (c .before .before .before .before .before .before .before .before .before .before .before .before .before .before .args .edge) (c .before .before .before .before .before .before .before .before .before .before .before .before .before .before .args .step) (c .before .before .before .before .before .before .before .before .before .before .before .before .before .before .args .edge-weight .now) (c .before .before .before .before .before .before .before .before .loop .growth) (c .before .before .before .before .before .before .before .before .loop .k) (c .before .before .before .before .before .before .before .before .loop .fresh) _ (c .before .before .before .before .before .before .before .before .loop .inv .5) (c .before .before .before .moved .result) (c .before .before .before .moved .ensures) (sym (c .before .reaches .ensures) ∙ c .if1 .left),
 )
 
--- src/lib.rt:238:1
 same-length : tie.Need-same-length Inv-loop μ-loop
 same-length c = c .before .loop .inv .2
 
--- src/lib.rt:238:1
 same-length-2 : tie.Need-same-length-2 Inv-loop μ-loop
 same-length-2 c = c .before .loop .inv .3
 
--- src/lib.rt:238:1
 returns : tie.Need-returns Inv-loop μ-loop
 returns c = let q : c .before .loop .i ≡ c .before .before .before .before .before .before .before .args .m = omega arith in record {
   grows = sym (grow-end (c .before .before .before .before .before .before .before .args .step) (c .before .loop .growth) (c .before .before .before .before .before .before .before .args .touched .now) (c .before .before .before .before .before .before .before .args .cnt .now) (c .before .before .before .before .before .before .before .args .m)) ∙ (rw q at (c .before .loop .inv .4));

@@ -10,11 +10,6 @@ use Rattle.rounds.specs.Passes.{leastIn, leastOfBest, lesserOf, noneYet,
 use Rattle.rounds.proofs.Laws.{least-turn, least-end}
 use Rattle.rounds.proofs.least.Statement.{statement}
 use Rattle.rounds.proofs.least.Tie as tie
-use Rattle.rounds.proofs.least.Reads as reads
-use Rattle.rounds.proofs.least.Lts as lts
-use Rattle.rounds.proofs.lesser.Reads as lesser-reads
-use Rattle.rounds.proofs.no_best.Reads as no-best-reads
-use Rattle.rounds.proofs.step_at.Reads as step-at-reads
 
 abbrev Inv-loop : tie.InvT-loop
 Inv-loop touched cnt m edge-weight growth b₀ i₀ b i = (i ≤ m) × (leastIn edge-weight growth (leastOfBest b) (slice i m touched) (slice i m cnt) ≡ leastIn edge-weight growth (noneYet (take m touched)) (take m touched) (take m cnt))
@@ -22,71 +17,54 @@ Inv-loop touched cnt m edge-weight growth b₀ i₀ b i = (i ≤ m) × (leastIn 
 abbrev μ-loop : tie.MeasureT-loop
 μ-loop touched cnt m edge-weight growth b₀ i₀ b i = m - i
 
--- src/lib.rt:209:9
 no-best-requires : tie.Need-no-best-requires Inv-loop μ-loop
 no-best-requires c κs = c .before .before .before .before .pre .0 .touches
 
--- src/lib.rt:211:5
 loop-holds : tie.Need-loop-holds Inv-loop μ-loop
 loop-holds c = (omega arith, ap (λ (x : Least). leastIn (c .before .before .before .before .before .args .edge-weight .now) (c .before .before .before .before .before .args .growth .now) x (take (c .before .before .before .before .before .args .m) (c .before .before .before .before .before .args .touched .now)) (take (c .before .before .before .before .before .args .m) (c .before .before .before .before .before .args .cnt .now))) (c .no-best .ensures))
 
--- src/lib.rt:212:17
 mul-e : tie.Need-mul-e Inv-loop μ-loop
 mul-e c = omega (arith, c .before .before .before .before .before .before .before .pre .0 .touches)
 
--- src/lib.rt:212:17
 shared-slice-read-e : tie.Need-shared-slice-read-e Inv-loop μ-loop
 shared-slice-read-e c = omega (arith, c .before .before .before .before .before .before .before .before .pre .0 .touches)
 
--- src/lib.rt:213:37
 cast-step-at : tie.Need-cast-step-at Inv-loop μ-loop
 cast-step-at c = omega (arith, c .before .before .before .before .before .before .before .before .pre .0 .inside (c .before .before .loop .i) (omega arith))
 
--- src/lib.rt:213:25
 mul-step-at : tie.Need-mul-step-at Inv-loop μ-loop
 mul-step-at c = omega (arith, c .before .before .before .before .before .before .before .before .pre .0 .inside (c .before .before .loop .i) (omega arith))
 
--- src/lib.rt:213:25
 shared-slice-read-step-at : tie.Need-shared-slice-read-step-at Inv-loop μ-loop
 shared-slice-read-step-at c = omega (arith, c .before .before .before .before .before .before .before .before .before .pre .0 .inside (c .before .before .before .loop .i) (omega arith))
 
--- src/lib.rt:213:57
 cast-step-at-2 : tie.Need-cast-step-at-2 Inv-loop μ-loop
 cast-step-at-2 c = omega (arith, c .before .before .before .before .before .before .before .before .before .pre .0 .inside (c .before .before .before .loop .i) (omega arith), c .before .before .before .before .before .before .before .before .before .pre .1)
 
--- src/lib.rt:213:50
 mul-step-at-2 : tie.Need-mul-step-at-2 Inv-loop μ-loop
 mul-step-at-2 c = omega (arith, c .before .before .before .before .before .before .before .before .before .pre .0 .inside (c .before .before .before .loop .i) (omega arith), c .before .before .before .before .before .before .before .before .before .pre .1)
 
--- src/lib.rt:213:50
 shared-slice-read-step-at-2 : tie.Need-shared-slice-read-step-at-2 Inv-loop μ-loop
 shared-slice-read-step-at-2 c = omega (arith, c .before .before .before .before .before .before .before .before .before .before .pre .0 .inside (c .before .before .before .before .loop .i) (omega arith), c .before .before .before .before .before .before .before .before .before .before .pre .1)
 
--- src/lib.rt:213:70
 shared-slice-read-step-at-3 : tie.Need-shared-slice-read-step-at-3 Inv-loop μ-loop
 shared-slice-read-step-at-3 c = omega (arith, c .before .before .before .before .before .before .before .before .before .before .before .pre .0 .cnts)
 
--- src/lib.rt:213:13
 step-at-requires : tie.Need-step-at-requires Inv-loop μ-loop
 step-at-requires c κs = tt
 
--- src/lib.rt:214:9
 lesser-requires : tie.Need-lesser-requires Inv-loop μ-loop
 lesser-requires c κs = tt
 
--- src/lib.rt:215:9
 add-i : tie.Need-add-i Inv-loop μ-loop
 add-i c = omega (arith, c .before .before .before .before .before .before .before .before .before .before .before .before .before .pre .0 .touches)
 
--- src/lib.rt:211:5
 loop-less : tie.Need-loop-less Inv-loop μ-loop
 loop-less c = omega arith
 
--- src/lib.rt:211:5
 loop-again : tie.Need-loop-again Inv-loop μ-loop
 loop-again c = (omega arith, ap (λ (x : Least). leastIn (c .before .before .before .before .before .before .before .before .before .before .before .before .before .args .edge-weight .now) (c .before .before .before .before .before .before .before .before .before .before .before .before .before .args .growth .now) x (slice (c .before .before .before .before .before .before .before .loop .i + 1) (c .before .before .before .before .before .before .before .before .before .before .before .before .before .args .m) (c .before .before .before .before .before .before .before .before .before .before .before .before .before .args .touched .now)) (slice (c .before .before .before .before .before .before .before .loop .i + 1) (c .before .before .before .before .before .before .before .before .before .before .before .before .before .args .m) (c .before .before .before .before .before .before .before .before .before .before .before .before .before .args .cnt .now))) (c .lesser .ensures ∙ ap (lesserOf (leastOfBest (c .before .before .before .before .before .before .before .loop .b)) (getD (c .before .before .before .before .before .before .before .before .before .before .before .before .before .args .touched .now) (c .before .before .before .before .before .before .before .loop .i) 0)) (c .before .step-at .ensures)) ∙ sym (least-turn (c .before .before .before .before .before .before .before .before .before .before .before .before .before .args .touched .now) (c .before .before .before .before .before .before .before .before .before .before .before .before .before .args .cnt .now) (c .before .before .before .before .before .before .before .loop .i) (c .before .before .before .before .before .before .before .before .before .before .before .before .before .args .m) (omega arith) (c .before .before .before .before .before .before .before .before .before .before .before .before .before .pre .0 .touches) (c .before .before .before .before .before .before .before .before .before .before .before .before .before .pre .0 .cnts) (c .before .before .before .before .before .before .before .before .before .before .before .before .before .args .edge-weight .now) (c .before .before .before .before .before .before .before .before .before .before .before .before .before .args .growth .now) (leastOfBest (c .before .before .before .before .before .before .before .loop .b))) ∙ c .before .before .before .before .before .before .before .loop .inv .1)
 
--- src/lib.rt:204:1
 returns : tie.Need-returns Inv-loop μ-loop
 returns c = let q : c .before .loop .i ≡ c .before .before .before .before .before .before .before .args .m = omega arith in sym (least-end (c .before .before .before .before .before .before .before .args .edge-weight .now) (c .before .before .before .before .before .before .before .args .growth .now) (leastOfBest (c .before .loop .b)) (c .before .before .before .before .before .before .before .args .touched .now) (c .before .before .before .before .before .before .before .args .cnt .now) (c .before .before .before .before .before .before .before .args .m)) ∙ (rw q at (c .before .loop .inv .1))
 

@@ -7,14 +7,10 @@ use lib.ListN.{length, getD, set, take, length-set}
 use lib.Seq.{slice, slice-empty}
 use Rattle.rounds.proofs.lesser.Statement.{statement}
 use Rattle.rounds.proofs.lesser.Tie as tie
-use Rattle.rounds.proofs.lesser.Reads as reads
-use Rattle.rounds.proofs.lesser.Lts as lts
 
--- src/lib.rt:174:1
 returns : tie.Need-returns
 returns c = rw (c .if1 .taken)
 
--- src/lib.rt:174:1
 returns-2 : tie.Need-returns-2
 returns-2 c = rw (c .if1 .left)
 

@@ -11,24 +11,18 @@ use lib.Seq.{getD-take}
 use borrow.Author.Needs.{needs}
 use Rattle.rounds.proofs.no_best.Statement.{statement}
 use Rattle.rounds.proofs.no_best.Tie as tie
-use Rattle.rounds.proofs.no_best.Reads as reads
-use Rattle.rounds.proofs.no_best.Lts as lts
 
--- src/lib.rt:189:16
 float-from-bits-step : tie.Need-float-from-bits-step
 unfolding nanBits
 float-from-bits-step c = tt
 
--- src/lib.rt:191:9
 returns : tie.Need-returns
 unfolding Ieee.ofBits
 returns c = rw (c .if1 .taken)
 
--- src/lib.rt:196:16
 shared-slice-read-edge : tie.Need-shared-slice-read-edge
 shared-slice-read-edge c = search needs
 
--- src/lib.rt:185:1
 returns-2 : tie.Need-returns-2
 unfolding Ieee.ofBits
 returns-2 c = λ i. record { edge = sym (getD-take (c .before .before .args .m) (c .before .before .args .touched .now) 0 0 (omega arith)) i; step = Ieee.inf false }

@@ -11,9 +11,6 @@ use Rattle.rounds.specs.Passes.{isFree, Opening, Opened}
 use Rattle.rounds.proofs.Laws.{marks-shut, marks-open, found-shut, found-open}
 use Rattle.rounds.proofs.open_edges.Statement.{statement}
 use Rattle.rounds.proofs.open_edges.Tie as tie
-use Rattle.rounds.proofs.open_edges.Reads as reads
-use Rattle.rounds.proofs.open_edges.Lts as lts
-use Rattle.bits.proofs.set.Reads as set-reads
 
 abbrev Inv-loop : tie.InvT-loop
 Inv-loop adj-edge start end sat bits₀ found₀ k₀ bits found k = (start ≤ k) × (k ≤ end) × (length bits ≡ length bits₀) × ((found || any (isFree sat) (slice k end adj-edge)) ≡ any (isFree sat) (slice start end adj-edge))
@@ -22,47 +19,36 @@ Inv-loop adj-edge start end sat bits₀ found₀ k₀ bits found k = (start ≤ 
 abbrev μ-loop : tie.MeasureT-loop
 μ-loop adj-edge start end sat bits₀ found₀ k₀ bits found k = end - k
 
--- src/lib.rt:51:5
 loop-holds : tie.Need-loop-holds Inv-loop μ-loop
 loop-holds c = (omega (arith, c .before .before .before .pre .rising), omega (arith, c .before .before .before .pre .rising), refl, refl, λ j. refl)
 
--- src/lib.rt:52:17
 mul-e : tie.Need-mul-e Inv-loop μ-loop
 mul-e c = omega (arith, c .before .before .before .before .before .pre .ends)
 
--- src/lib.rt:52:17
 shared-slice-read-e : tie.Need-shared-slice-read-e Inv-loop μ-loop
 shared-slice-read-e c = omega (arith, c .before .before .before .before .before .before .pre .ends)
 
--- src/lib.rt:52:17
 cast-e : tie.Need-cast-e Inv-loop μ-loop
 cast-e c = omega (arith, c .before .before .before .before .before .before .pre .inside (c .before .before .loop .k) (omega arith) (omega arith))
 
--- src/lib.rt:53:9
 add-k : tie.Need-add-k Inv-loop μ-loop
 add-k c = omega (arith, c .before .before .before .before .before .before .pre .ends)
 
--- src/lib.rt:54:17
 shared-slice-read-s : tie.Need-shared-slice-read-s Inv-loop μ-loop
 shared-slice-read-s c = omega (arith, c .before .before .before .before .before .before .before .pre .inside (c .before .before .before .loop .k) (omega arith) (omega arith))
 
--- src/lib.rt:51:5
 loop-less : tie.Need-loop-less Inv-loop μ-loop
 loop-less c = omega arith
 
--- src/lib.rt:51:5
 loop-again : tie.Need-loop-again Inv-loop μ-loop
 loop-again c = (omega arith, omega arith, c .before .before .before .before .loop .inv .2, found-shut (c .before .before .before .before .before .before .before .before .args .adj-edge .now) (c .before .before .before .before .loop .k) (c .before .before .before .before .before .before .before .before .args .end) (omega arith) (c .before .before .before .before .before .before .before .before .pre .ends) (c .before .before .before .before .before .before .before .before .args .sat .now) (c .before .before .before .before .loop .found) (any (isFree (c .before .before .before .before .before .before .before .before .args .sat .now)) (slice (c .before .before .before .before .before .before .before .before .args .start) (c .before .before .before .before .before .before .before .before .args .end) (c .before .before .before .before .before .before .before .before .args .adj-edge .now))) (c .before .before .before .before .loop .inv .3) (c .if1 .taken), marks-shut (c .before .before .before .before .before .before .before .before .args .adj-edge .now) (c .before .before .before .before .loop .k) (c .before .before .before .before .before .before .before .before .args .end) (omega arith) (c .before .before .before .before .before .before .before .before .pre .ends) (c .before .before .before .before .before .before .before .before .args .sat .now) (c .before .before .before .before .loop .bits) (λ j. bit (c .before .before .before .before .before .before .before .before .args .bits .now) j || (member j (slice (c .before .before .before .before .before .before .before .before .args .start) (c .before .before .before .before .before .before .before .before .args .end) (c .before .before .before .before .before .before .before .before .args .adj-edge .now)) && isFree (c .before .before .before .before .before .before .before .before .args .sat .now) j)) (c .before .before .before .before .loop .inv .4) (c .if1 .taken))
 
--- src/lib.rt:59:9
 set-requires : tie.Need-set-requires Inv-loop μ-loop
 set-requires c κs = omega (arith, c .before .before .before .before .before .before .before .before .before .pre .inside (c .before .before .before .before .before .loop .k) (omega arith) (omega arith), c .before .before .before .before .before .before .before .before .before .pre .words, c .before .before .before .before .before .loop .inv .2)
 
--- src/lib.rt:51:5
 loop-less-2 : tie.Need-loop-less-2 Inv-loop μ-loop
 loop-less-2 c = omega arith
 
--- src/lib.rt:51:5
 loop-again-2 : tie.Need-loop-again-2 Inv-loop μ-loop
 loop-again-2 c = (
   omega arith,
@@ -72,11 +58,9 @@ loop-again-2 c = (
   marks-open (c .before .before .before .before .before .before .before .before .before .before .before .before .args .adj-edge .now) (c .before .before .before .before .before .before .before .before .loop .k) (c .before .before .before .before .before .before .before .before .before .before .before .before .args .end) (omega arith) (c .before .before .before .before .before .before .before .before .before .before .before .before .pre .ends) (c .before .before .before .before .before .before .before .before .before .before .before .before .args .sat .now) (c .before .before .before .before .before .before .before .before .loop .bits) (λ j. bit (c .before .before .before .before .before .before .before .before .before .before .before .before .args .bits .now) j || (member j (slice (c .before .before .before .before .before .before .before .before .before .before .before .before .args .start) (c .before .before .before .before .before .before .before .before .before .before .before .before .args .end) (c .before .before .before .before .before .before .before .before .before .before .before .before .args .adj-edge .now)) && isFree (c .before .before .before .before .before .before .before .before .before .before .before .before .args .sat .now) j)) (c .before .before .before .before .before .before .before .before .loop .inv .4) (c .before .before .before .before .if1 .left) _ (λ j. rw (c .before .before .set .ensures) (bit-set (c .before .before .before .before .before .before .before .before .loop .bits) (getD (c .before .before .before .before .before .before .before .before .before .before .before .before .args .adj-edge .now) (c .before .before .before .before .before .before .before .before .loop .k) 0) j (omega (arith, c .before .before .before .before .before .before .before .before .before .before .before .before .pre .inside (c .before .before .before .before .before .before .before .before .loop .k) (omega arith) (omega arith), c .before .before .before .before .before .before .before .before .before .before .before .before .pre .words, c .before .before .before .before .before .before .before .before .loop .inv .2)))),
 )
 
--- src/lib.rt:45:1
 same-length : tie.Need-same-length Inv-loop μ-loop
 same-length c = c .before .loop .inv .2
 
--- src/lib.rt:45:1
 returns : tie.Need-returns Inv-loop μ-loop
 unfolding any member
 returns c = let q : c .before .loop .k ≡ c .before .before .before .before .before .args .end = omega arith in let z = slice-empty (c .before .before .before .before .before .args .end) (c .before .before .before .before .before .args .adj-edge .now) in record {

@@ -10,14 +10,10 @@ use Rattle.steps.specs.Growth.{tolerance}
 use borrow.Author.Tests.{eq-eqb, ne-eqb}
 use Rattle.rounds.proofs.reaches.Statement.{statement}
 use Rattle.rounds.proofs.reaches.Tie as tie
-use Rattle.rounds.proofs.reaches.Reads as reads
-use Rattle.rounds.proofs.reaches.Lts as lts
 
--- src/lib.rt:232:9
 returns : tie.Need-returns
 returns c = rw (eq-eqb (c .before .args .e) (c .before .args .edge) (c .if1 .taken))
 
--- src/lib.rt:228:1
 returns-2 : tie.Need-returns-2
 unfolding tolerance
 returns-2 c = rw (ne-eqb (c .before .args .e) (c .before .args .edge) (c .if1 .left))
