@@ -4,8 +4,11 @@ use mathlib.Core.Path.{_≡_}
 use mathlib.Core.List.{List}
 use mathlib.Core.Bool.{Bool, false, _||_}
 use lib.ListN.{length, getD, take}
+use lib.Ieee.{Float}
 use Rattle.lists.specs.Lists.{member}
 use Rattle.bits.specs.Rows.{setBits}
+use Rattle.steps.specs.Graph.{Graph}
+use Rattle.growth.specs.Grow.{Grew}
 
 -- l detectors, and a place for each in every table
 pub record Lighting (d : ℕ) (defects : List ℕ) (l : ℕ) (lit odd known hot : List Bool) (active seen : List ℕ) : Type 0 where
@@ -36,3 +39,10 @@ pub record Shot (d : ℕ) (row defects : List ℕ) (l : ℕ) : Type 0 where
 pub record Room (d : ℕ) (seen active : List ℕ) : Type 0 where
   pub seens : d ≤ length seen
   pub actives : d ≤ length active
+
+-- growth has ended, or a cluster is stuck, with some order of active clusters
+pub record GrewTo (g : Graph) (lit : List Bool) (stuck rounds : ℕ) (growth : List Float) (sat : List Bool) (parent : List ℕ)
+    (odd : List Bool) (exit : List ℕ) (known : List Bool) (seen : List ℕ) (n : ℕ) (hot free live : List Bool) (bits : List ℕ) : Type 0 where
+  pub active : List ℕ
+  pub still : ℕ
+  pub grew : Grew g lit stuck rounds growth sat parent active still odd exit known seen n hot free live bits

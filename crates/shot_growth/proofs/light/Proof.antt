@@ -9,8 +9,6 @@ use Rattle.lists.specs.Lists.{member}
 use Rattle.shot_growth.specs.Begin.{Lighting, Lit}
 use Rattle.shot_growth.proofs.light.Statement.{statement}
 use Rattle.shot_growth.proofs.light.Tie as tie
-use Rattle.shot_growth.proofs.light.Reads as reads
-use Rattle.shot_growth.proofs.light.Lts as lts
 
 abbrev Inv-loop : tie.InvT-loop
 Inv-loop d defects l lit₀ odd₀ known₀ hot₀ active₀ seen₀ i₀ lit odd known hot active seen i = (i ≤ l) × (length lit ≡ length lit₀) × (length odd ≡ length odd₀) × (length known ≡ length known₀) × (length hot ≡ length hot₀) × (length active ≡ length active₀) × (length seen ≡ length seen₀)
@@ -23,64 +21,49 @@ Inv-loop d defects l lit₀ odd₀ known₀ hot₀ active₀ seen₀ i₀ lit od
 abbrev μ-loop : tie.MeasureT-loop
 μ-loop d defects l lit₀ odd₀ known₀ hot₀ active₀ seen₀ i₀ lit odd known hot active seen i = l - i
 
--- src/lib.rt:29:5
 loop-holds : tie.Need-loop-holds Inv-loop μ-loop
 unfolding member
 loop-holds c = (omega arith, refl, refl, refl, refl, refl, refl, (λ x. light-start (getD (c .args .lit .now) x false)), (λ x. light-start (getD (c .args .odd .now) x false)), (λ x. light-start (getD (c .args .known .now) x false)), (λ x. light-start (getD (c .args .hot .now) x false)), refl, refl)
 
--- src/lib.rt:30:17
 mul-x : tie.Need-mul-x Inv-loop μ-loop
 mul-x c = omega (arith, c .before .before .pre .few)
 
--- src/lib.rt:30:17
 shared-slice-read-x : tie.Need-shared-slice-read-x Inv-loop μ-loop
 shared-slice-read-x c = omega (arith, c .before .before .before .pre .few)
 
--- src/lib.rt:31:17
 cast-k : tie.Need-cast-k Inv-loop μ-loop
 cast-k c = omega (arith, c .before .before .before .pre .inside (c .before .before .loop .i) (omega arith), c .before .before .before .pre .lit-long)
 
--- src/lib.rt:32:9
 slice-write-lit : tie.Need-slice-write-lit Inv-loop μ-loop
 slice-write-lit c = omega (arith, c .before .before .before .pre .inside (c .before .before .loop .i) (omega arith), c .before .before .before .pre .lit-long, c .before .before .loop .inv .1)
 
--- src/lib.rt:33:9
 slice-write-odd : tie.Need-slice-write-odd Inv-loop μ-loop
 slice-write-odd c = omega (arith, c .before .before .before .pre .inside (c .before .before .loop .i) (omega arith), c .before .before .before .pre .odd-long, c .before .before .loop .inv .2)
 
--- src/lib.rt:34:9
 slice-write-known : tie.Need-slice-write-known Inv-loop μ-loop
 slice-write-known c = omega (arith, c .before .before .before .pre .inside (c .before .before .loop .i) (omega arith), c .before .before .before .pre .known-long, c .before .before .loop .inv .3)
 
--- src/lib.rt:35:9
 slice-write-hot : tie.Need-slice-write-hot Inv-loop μ-loop
 slice-write-hot c = omega (arith, c .before .before .before .pre .inside (c .before .before .loop .i) (omega arith), c .before .before .before .pre .hot-long, c .before .before .loop .inv .4)
 
--- src/lib.rt:36:9
 mul-active : tie.Need-mul-active Inv-loop μ-loop
 mul-active c = omega (arith, c .before .before .before .pre .actives, c .before .before .loop .inv .5)
 
--- src/lib.rt:36:9
 slice-write-active : tie.Need-slice-write-active Inv-loop μ-loop
 slice-write-active c = omega (arith, c .before .before .before .pre .actives, c .before .before .loop .inv .5)
 
--- src/lib.rt:37:9
 mul-seen : tie.Need-mul-seen Inv-loop μ-loop
 mul-seen c = omega (arith, c .before .before .before .pre .seens, c .before .before .loop .inv .6)
 
--- src/lib.rt:37:9
 slice-write-seen : tie.Need-slice-write-seen Inv-loop μ-loop
 slice-write-seen c = omega (arith, c .before .before .before .pre .seens, c .before .before .loop .inv .6)
 
--- src/lib.rt:38:9
 add-i : tie.Need-add-i Inv-loop μ-loop
 add-i c = omega (arith, c .before .before .before .pre .few)
 
--- src/lib.rt:29:5
 loop-less : tie.Need-loop-less Inv-loop μ-loop
 loop-less c = omega arith
 
--- src/lib.rt:29:5
 loop-again : tie.Need-loop-again Inv-loop μ-loop
 loop-again c = (
   omega arith,
@@ -98,31 +81,24 @@ loop-again c = (
   list-next (c .before .before .before .args .defects .now) (c .before .before .loop .i) (omega (arith, c .before .before .before .pre .few)) (c .before .before .loop .seen) (omega (arith, c .before .before .before .pre .seens, c .before .before .loop .inv .6)) (c .before .before .loop .inv .12),
 )
 
--- src/lib.rt:14:1
 same-length : tie.Need-same-length Inv-loop μ-loop
 same-length c = c .before .loop .inv .1
 
--- src/lib.rt:14:1
 same-length-2 : tie.Need-same-length-2 Inv-loop μ-loop
 same-length-2 c = c .before .loop .inv .2
 
--- src/lib.rt:14:1
 same-length-3 : tie.Need-same-length-3 Inv-loop μ-loop
 same-length-3 c = c .before .loop .inv .3
 
--- src/lib.rt:14:1
 same-length-4 : tie.Need-same-length-4 Inv-loop μ-loop
 same-length-4 c = c .before .loop .inv .4
 
--- src/lib.rt:14:1
 same-length-5 : tie.Need-same-length-5 Inv-loop μ-loop
 same-length-5 c = c .before .loop .inv .5
 
--- src/lib.rt:14:1
 same-length-6 : tie.Need-same-length-6 Inv-loop μ-loop
 same-length-6 c = c .before .loop .inv .6
 
--- src/lib.rt:14:1
 returns : tie.Need-returns Inv-loop μ-loop
 returns c = let q : c .before .loop .i ≡ c .before .before .args .l = omega arith in record { lit-is = rw q at (c .before .loop .inv .7); odd-is = rw q at (c .before .loop .inv .8); known-is = rw q at (c .before .loop .inv .9); hot-is = rw q at (c .before .loop .inv .10); active-is = rw q at (c .before .loop .inv .11); seen-is = rw q at (c .before .loop .inv .12) }
 
