@@ -1,13 +1,13 @@
--- `decoder::decode_clean` meets its contract: the lit detectors listed and lit, then growth and the answer.
+-- `shots::decode_clean` meets its contract: the lit detectors listed and lit, then growth and the answer.
 use mathlib.Core.Path.{refl, _∙_}
 use native.Mathlib.Omega.{arith}
 use Rattle.shot_answer.specs.Shots.{graphIn}
 use Rattle.shot_answer.proofs.Joins.{lit-listed, left, small, space}
-use Rattle.decoder.proofs.Laws.{room, relit}
+use Rattle.shots.proofs.Laws.{room, relit}
 use Rattle.shot_growth.proofs.Laws.{lighting, lit-row, rep-start}
 use borrow.Author.Needs.{needs}
-use Rattle.decoder.proofs.decode_clean.Statement.{statement}
-use Rattle.decoder.proofs.decode_clean.Tie as tie
+use Rattle.shots.proofs.decode_clean.Statement.{statement}
+use Rattle.shots.proofs.decode_clean.Tie as tie
 
 list-set-bits-requires : tie.Need-list-set-bits-requires
 list-set-bits-requires c κs =

@@ -1,0 +1,21 @@
+-- `scratch::least_lengths` meets its contract.
+use Rattle.scratch.specs.Scratch.{lengthsFor}
+use borrow.Author.Needs.{needs}
+use Rattle.scratch.proofs.least_lengths.Statement.{statement}
+use Rattle.scratch.proofs.least_lengths.Tie as tie
+
+mul-ends : tie.Need-mul-ends
+mul-ends c = search needs
+
+add-t4 : tie.Need-add-t4
+add-t4 c = search needs
+
+words-requires : tie.Need-words-requires
+words-requires c κs = search needs
+
+returns : tie.Need-returns
+unfolding lengthsFor
+returns c = simp (c .words .ensures)
+
+pub least-lengths-spec : {M : Type 1} → statement M
+least-lengths-spec = tie.close (tie.spec mul-ends add-t4 words-requires returns)
