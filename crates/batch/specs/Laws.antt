@@ -1,5 +1,5 @@
 -- What a batch leaves, row by row. Each statement is proved in proofs/ under the same name in small letters.
-use Prim.Native.Nat.{ℕ, _*_, _≤_, _<_}
+use Prim.Native.Nat.{ℕ, _+_, _*_, _≤_, _<_}
 use mathlib.Core.Path.{_≡_}
 use mathlib.Core.List.{List}
 use lib.ListN.{length, drop}
@@ -30,7 +30,7 @@ module _ (g : Graph) (rows : List ℕ) (shots : ℕ) (out : List ℕ) where
     pub stuck : shotAt g rows t ≡ impossible rounds d
     pub row : (s : ℕ) → s < t → leftAt s ≡ rowFor g rows s
     pub zero : leftAt t ≡ zeros g
-    pub later : drop (t * words (g .observables)) (drop (words (g .observables)) (rowsOf g rows (below shots) out)) ≡ drop (t * words (g .observables)) (drop (words (g .observables)) out)
+    pub later : drop (t * words (g .observables) + words (g .observables)) (rowsOf g rows (below shots) out) ≡ drop (t * words (g .observables) + words (g .observables)) out
 
   abbrev pub RowAlone : Type 0
   RowAlone = shots * words (g .observables) ≤ length out → checkShotsOf g rows (below shots) ≡ Accepted → Done
