@@ -5,6 +5,7 @@ ghost use Prim.Native.Nat.{_≤_};
 ghost use lib.Dec.{leb, ltb};
 ghost use Rattle.codes.specs.Limits.{maxDetectors, maxMechanisms};
 ghost use Rattle.scratch.specs.Scratch.{lengthsFor, scratchLong};
+ghost use Rattle.scratch.specs.Laws.{each};
 
 #[repr(C)]
 pub struct Lengths {
@@ -63,6 +64,37 @@ pub fn least_lengths(detectors: usize, edges: usize) -> Lengths
         free: detectors,
         live: detectors,
         bits: bits::words(edges),
+    }
+}
+
+// No entry in any slice.
+pub fn no_lengths() -> Lengths
+    ensures { λ r. ⌜ r ≡ each 0 ⌝ }
+{
+    Lengths {
+        adj_offsets: 0,
+        adj_edge: 0,
+        adj_far: 0,
+        defects: 0,
+        seen: 0,
+        active: 0,
+        front: 0,
+        touched: 0,
+        cnt: 0,
+        fresh: 0,
+        order_edge: 0,
+        order_parent: 0,
+        lit: 0,
+        growth: 0,
+        sat: 0,
+        known: 0,
+        parent: 0,
+        odd: 0,
+        boundary_edge: 0,
+        hot: 0,
+        free: 0,
+        live: 0,
+        bits: 0,
     }
 }
 

@@ -1,0 +1,207 @@
+// The C exports, all of them. Each takes numbers and slices, checks what it is handed and answers with a struct by value.
+use codes::Refusal;
+use graph::Compiled;
+use scratch::Lengths;
+ghost use mathlib.Core.Path.{_≡_};
+ghost use Rattle.dem.specs.Positions.{tables};
+ghost use Rattle.graph.specs.Tables.{slices};
+ghost use Rattle.graph.specs.Outcome.{outcome, Compiles};
+ghost use Prim.Native.Nat.{_≤_};
+ghost use Rattle.codes.specs.Limits.{maxMechanisms};
+ghost use Rattle.server.specs.Lengths.{within, decodeLengths, decomposeWith, decomposeLengths, compileWith, compileLengths, markWith, markLengths};
+ghost use Rattle.server.specs.Words.{InWords, wordsOfGraph};
+
+// The answer of compiling.
+#[repr(C)]
+pub struct GraphWords {
+    pub code: u32,
+    pub first: usize,
+    pub second: usize,
+    pub edges: usize,
+}
+
+fn graph_words(a: Compiled) -> GraphWords
+    ensures { λ r. ⌜ r ≡ wordsOfGraph a ⌝ }
+{
+    match a {
+        Compiled::Edges(edges) => GraphWords {
+            code: 0,
+            first: 0,
+            second: 0,
+            edges: edges,
+        },
+        Compiled::Refused(r) => GraphWords {
+            code: codes::code(r) as u32,
+            first: codes::first_value(r),
+            second: codes::second_value(r) as usize,
+            edges: 0,
+        },
+    }
+}
+
+#[no_mangle]
+pub extern "C" fn pavrenni_compile(
+    detectors: usize,
+    observables: usize,
+    mechanisms: usize,
+    probability: &[f64],
+    detector_counts: &[u8],
+    observable_counts: &[u8],
+    component_counts: &[u8],
+    component_detectors: &[u8],
+    component_observables: &[u8],
+    entries: &[u32],
+    edge_u: &mut [u32],
+    edge_v: &mut [u32],
+    edge_weight: &mut [f64],
+    edge_obs: &mut [u64],
+    edge_p: &mut [f64],
+    first: &mut [u32],
+    next: &mut [u32],
+) -> GraphWords
+    ensures { λ r. ⌜ InWords wordsOfGraph (λ a. Compiles detectors observables (outcome detectors observables mechanisms (tables (now (probability .entry)) (now («detector_counts» .entry)) (now («observable_counts» .entry)) (now («component_counts» .entry)) (now («component_detectors» .entry)) (now («component_observables» .entry)) (now (entries .entry))) (slices (now («edge_u» .entry)) (now («edge_v» .entry)) (now («edge_weight» .entry)) (now («edge_obs» .entry)) (now («edge_p» .entry))) (now (first .entry)) (now (next .entry))) a (slices (now («edge_u» .entry)) (now («edge_v» .entry)) (now («edge_weight» .entry)) (now («edge_obs» .entry)) (now («edge_p» .entry))) (slices (now («edge_u» .exit)) (now («edge_v» .exit)) (now («edge_weight» .exit)) (now («edge_obs» .exit)) (now («edge_p» .exit)))) r ⌝ }
+{
+    graph_words(graph::from_model(
+        detectors,
+        observables,
+        mechanisms,
+        probability,
+        detector_counts,
+        observable_counts,
+        component_counts,
+        component_detectors,
+        component_observables,
+        entries,
+        edge_u,
+        edge_v,
+        edge_weight,
+        edge_obs,
+        edge_p,
+        first,
+        next,
+    ))
+}
+
+// The scratch lengths of decomposition.
+#[repr(C)]
+pub struct DecomposeLengths {
+    pub starts: usize,
+    pub before: usize,
+    pub last_of: usize,
+    pub first_of: usize,
+    pub next_of: usize,
+    pub numbers: usize,
+    pub masks: usize,
+    pub words0: usize,
+    pub words1: usize,
+    pub earlier: usize,
+}
+
+// The scratch lengths of compiling.
+#[repr(C)]
+pub struct CompileLengths {
+    pub edge_p: usize,
+    pub first: usize,
+    pub next: usize,
+}
+
+// The scratch lengths of the marker.
+#[repr(C)]
+pub struct MarkLengths {
+    pub marks: usize,
+    pub wrong: usize,
+}
+
+// Whether the counts are within the limits.
+fn within(detectors: usize, items: usize) -> bool
+    ensures { λ r. ⌜ r ≡ within detectors items ⌝ }
+{
+    if codes::MAX_DETECTORS < detectors {
+        return false;
+    }
+    items <= codes::MAX_MECHANISMS
+}
+
+#[no_mangle]
+pub extern "C" fn pavrenni_lengths_for(detectors: usize, edges: usize) -> Lengths
+    ensures { λ r. ⌜ r ≡ decodeLengths detectors edges ⌝ }
+{
+    if !within(detectors, edges) {
+        return scratch::no_lengths();
+    }
+    scratch::least_lengths(detectors, edges)
+}
+
+fn decompose_lengths(detectors: usize, mechanisms: usize) -> DecomposeLengths
+    requires { ⌜ mechanisms ≤ maxMechanisms ⌝ }
+    ensures { λ r. ⌜ r ≡ decomposeWith detectors mechanisms ⌝ }
+{
+    let many = 17 * mechanisms;
+    DecomposeLengths {
+        starts: many,
+        before: many,
+        last_of: detectors,
+        first_of: detectors,
+        next_of: mechanisms,
+        numbers: mechanisms,
+        masks: mechanisms,
+        words0: mechanisms,
+        words1: mechanisms,
+        earlier: mechanisms,
+    }
+}
+
+#[no_mangle]
+pub extern "C" fn pavrenni_decompose_lengths_for(
+    detectors: usize,
+    mechanisms: usize,
+) -> DecomposeLengths
+    ensures { λ r. ⌜ r ≡ decomposeLengths detectors mechanisms ⌝ }
+{
+    if !within(detectors, mechanisms) {
+        return decompose_lengths(0, 0);
+    }
+    decompose_lengths(detectors, mechanisms)
+}
+
+fn compile_lengths(detectors: usize, mechanisms: usize) -> CompileLengths
+    ensures { λ r. ⌜ r ≡ compileWith detectors mechanisms ⌝ }
+{
+    CompileLengths {
+        edge_p: mechanisms,
+        first: detectors,
+        next: mechanisms,
+    }
+}
+
+#[no_mangle]
+pub extern "C" fn pavrenni_compile_lengths_for(
+    detectors: usize,
+    mechanisms: usize,
+) -> CompileLengths
+    ensures { λ r. ⌜ r ≡ compileLengths detectors mechanisms ⌝ }
+{
+    if !within(detectors, mechanisms) {
+        return compile_lengths(0, 0);
+    }
+    compile_lengths(detectors, mechanisms)
+}
+
+fn mark_lengths(detectors: usize, edges: usize) -> MarkLengths
+    ensures { λ r. ⌜ r ≡ markWith detectors edges ⌝ }
+{
+    MarkLengths {
+        marks: bits::words(edges),
+        wrong: bits::words(detectors),
+    }
+}
+
+#[no_mangle]
+pub extern "C" fn pavrenni_mark_lengths_for(detectors: usize, edges: usize) -> MarkLengths
+    ensures { λ r. ⌜ r ≡ markLengths detectors edges ⌝ }
+{
+    if !within(detectors, edges) {
+        return mark_lengths(0, 0);
+    }
+    mark_lengths(detectors, edges)
+}
