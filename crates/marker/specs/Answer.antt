@@ -1,0 +1,38 @@
+-- The marker's answer and the row that it leaves: document 01, "Correction list and marker" and "Codes on the marking sheet".
+use Prim.Native.Nat.{ℕ}
+use mathlib.Core.List.{List}
+use mathlib.Core.Bool.{Bool, _&&_}
+use lib.Dec.{leb}
+use lib.ListN.{length}
+use Rattle.bits.specs.Rows.{words}
+use Rattle.codes.specs.declared.Checked.{Checked}
+use Rattle.codes.specs.declared.Checked.the-variants as checked
+use Rattle.steps.specs.Marker.{Marked, mark}
+use Rattle.steps.specs.Call.{litOf, rowMarked}
+use Rattle.calls.specs.Call.{Lent, graphIn, checkCall}
+use Rattle.marking.specs.declared.Marking.{Marking}
+use Rattle.marking.specs.declared.Marking.the-variants as marking
+use Rattle.marking.specs.Answer.{markingOf}
+
+-- D, O, edges, and as many words of row, of marks and of wrong detectors: each is as long as the counts need
+unfoldable pub markerLong : ℕ → ℕ → ℕ → ℕ → ℕ → ℕ → Bool
+unfolding words
+markerLong d o edges row marks wrong = leb (words o) row && (leb (words edges) marks && leb (words d) wrong)
+
+-- what a call of the marker checks, of one shot: the graph, 8, 9, 10
+abbrev pub checkMark : Lent → List ℕ → List ℕ → List ℕ → List ℕ → ℕ → Checked
+checkMark l row marks wrong shot width = checkCall l (markerLong (l .detectors) (l .observables) (l .edges) (length row) (length marks) (length wrong)) shot 1 width
+
+-- the marker on a lent graph, a shot and a list
+abbrev pub markIn : Lent → List ℕ → List ℕ → Marked
+markIn l shot list = mark (graphIn l) (litOf (l .detectors) shot) list
+
+-- a refusal of the check is the answer, else it is the marker's
+abbrev pub answerOf : Checked → Marked → Marking
+answerOf checked.Accepted m = markingOf m
+answerOf (checked.Refused r) m = marking.Refused r
+
+-- the row after a refusal is as it was, else as the marker leaves it
+abbrev pub rowAfter : Checked → List ℕ → Marked → List ℕ
+rowAfter checked.Accepted was m = rowMarked was m
+rowAfter (checked.Refused r) was m = was

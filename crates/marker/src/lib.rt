@@ -1,0 +1,93 @@
+// The marker: document 01, "Correction list and marker". A lent graph, a shot and any list of edge numbers.
+use codes::Checked;
+use marking::Marking;
+ghost use mathlib.Core.Path.{_≡_};
+ghost use lib.ListN.{length};
+ghost use Rattle.codes.specs.declared.Checked.the-variants.{Accepted};
+ghost use Rattle.steps.specs.Call.{litOf};
+ghost use Rattle.steps.specs.Found.{Found, bySteps};
+ghost use Rattle.calls.specs.Call.{lentOf, graphIn};
+ghost use Rattle.marker.specs.Answer.{markerLong, checkMark, markIn, answerOf, rowAfter};
+
+// 2: the row, and the scratch for the edges met and the wrong detectors, are as long as the counts need.
+fn long(
+    detectors: usize,
+    observables: usize,
+    edges: usize,
+    row: &[u64],
+    marks: &[u64],
+    wrong: &[u64],
+) -> bool
+    ensures { λ r. ⌜ r ≡ markerLong detectors observables edges (length (now (row .entry))) (length (now (marks .entry))) (length (now (wrong .entry))) ⌝ }
+{
+    if row.len() < bits::words(observables) {
+        return false;
+    }
+    if marks.len() < bits::words(edges) {
+        return false;
+    }
+    bits::words(detectors) <= wrong.len()
+}
+
+// 1, 2, the graph, 8, 9, 10, then 13, Pass or Differs.
+pub fn mark(
+    detectors: usize,
+    observables: usize,
+    edges: usize,
+    edge_u: &[u32],
+    edge_v: &[u32],
+    edge_weight: &[f64],
+    edge_obs: &[u64],
+    shot: &[u64],
+    width: usize,
+    list: &[u32],
+    row: &mut [u64],
+    marks: &mut [u64],
+    wrong: &mut [u64],
+) -> Marking
+    ensures answers { λ r. ⌜ (let l = lentOf detectors observables edges (now («edge_u» .entry)) (now («edge_v» .entry)) (now («edge_weight» .entry)) (now («edge_obs» .entry)) in
+        r ≡ answerOf (checkMark l (now (row .entry)) (now (marks .entry)) (now (wrong .entry)) (now (shot .entry)) width) (markIn l (now (shot .entry)) (now (list .entry)))) ⌝ }
+    ensures rows { λ _. ⌜ (let l = lentOf detectors observables edges (now («edge_u» .entry)) (now («edge_v» .entry)) (now («edge_weight» .entry)) (now («edge_obs» .entry)) in
+        now (row .exit) ≡ rowAfter (checkMark l (now (row .entry)) (now (marks .entry)) (now (wrong .entry)) (now (shot .entry)) width) (now (row .entry)) (markIn l (now (shot .entry)) (now (list .entry)))) ⌝ }
+    ensures found { λ _. ⌜ (let l = lentOf detectors observables edges (now («edge_u» .entry)) (now («edge_v» .entry)) (now («edge_weight» .entry)) (now («edge_obs» .entry)) in
+        checkMark l (now (row .entry)) (now (marks .entry)) (now (wrong .entry)) (now (shot .entry)) width ≡ Accepted → Found bySteps (graphIn l) (litOf detectors (now (shot .entry)))) ⌝ }
+{
+    let enough = long(detectors, observables, edges, row, marks, wrong);
+    let checked = calls::check_call(
+        detectors,
+        observables,
+        edges,
+        edge_u,
+        edge_v,
+        edge_weight,
+        edge_obs,
+        enough,
+        shot,
+        1,
+        width,
+    );
+    if let Checked::Refused(r) = checked {
+        return Marking::Refused(r);
+    }
+    let m = bits::words(edges);
+    let n = bits::words(detectors);
+    let judged = marking::judge(
+        detectors,
+        edges,
+        edge_u,
+        edge_v,
+        shot,
+        list,
+        &mut marks[0..m],
+        &mut wrong[0..n],
+    );
+    match judged {
+        Marking::Pass => {
+            let w = bits::words(observables);
+            marking::write_row(edge_obs, list, &mut row[0..w]);
+            Marking::Pass
+        }
+        Marking::Differs { detector } => Marking::Differs { detector },
+        Marking::Refused(r) => Marking::Refused(r),
+    }
+}
