@@ -1,5 +1,5 @@
 -- A call of the marker: what an accepted one asks of its passes, and what each answer leaves.
-use Prim.Native.Nat.{ℕ, _+_, _-_, _*_, _≤_, _<_}
+use Prim.Native.Nat.{ℕ, _-_, _*_, _≤_, _<_}
 use native.Mathlib.Omega.{arith}
 use native.Mathlib.Nat.{mul-le-mul-right, suc-mul, zero-mul}
 use mathlib.Core.Path.{_≡_, refl, sym, ap, _∙_}
@@ -12,7 +12,7 @@ use borrow.Author.Tests.{leb-true}
 use borrow.Rule.Slice.PartMut.{midOf, putMid, mid-len}
 use Rattle.lists.specs.Lists.{member}
 use Rattle.lists.proofs.Truth.{and-left, and-right}
-use Rattle.bits.specs.Rows.{words, isClear}
+use Rattle.bits.specs.Rows.{words}
 use Rattle.bits.proofs.Booleans.{bits-length}
 use Rattle.codes.specs.declared.Checked.{Checked}
 use Rattle.codes.specs.declared.Checked.the-variants as checked
@@ -25,7 +25,7 @@ use Rattle.steps.specs.Call.{graphOf, litOf, rowMarked}
 use Rattle.steps.specs.Found.{Found, bySteps}
 use Rattle.found.proofs.Found.{found}
 use Rattle.found.proofs.Fits.{fit-known}
-use Rattle.found.proofs.SameEnds.{SameEnds, back, same-ends}
+use Rattle.found.proofs.SameEnds.{SameEnds, same-ends}
 use Rattle.calls.specs.Call.{Lent, graphIn, checkCall}
 use Rattle.calls.specs.Laws.{Accepts}
 use Rattle.calls.proofs.Laws.{call-accepted}
