@@ -1,5 +1,6 @@
 -- The marker's answer and the row that it leaves: document 01, "Correction list and marker" and "Codes on the marking sheet".
 use Prim.Native.Nat.{ℕ}
+use mathlib.Core.Path.{_≡_}
 use mathlib.Core.List.{List}
 use mathlib.Core.Bool.{Bool, _&&_}
 use lib.Dec.{leb}
@@ -9,6 +10,7 @@ use Rattle.codes.specs.declared.Checked.{Checked}
 use Rattle.codes.specs.declared.Checked.the-variants as checked
 use Rattle.steps.specs.Marker.{Marked, mark}
 use Rattle.steps.specs.Call.{litOf, rowMarked}
+use Rattle.steps.specs.Found.{bySteps, Found}
 use Rattle.calls.specs.Call.{Lent, graphIn, checkCall}
 use Rattle.marking.specs.declared.Marking.{Marking}
 use Rattle.marking.specs.declared.Marking.the-variants as marking
@@ -36,3 +38,9 @@ answerOf (checked.Refused r) m = marking.Refused r
 abbrev pub rowAfter : Checked → List ℕ → Marked → List ℕ
 rowAfter checked.Accepted was m = rowMarked was m
 rowAfter (checked.Refused r) was m = was
+
+-- all that the call promises of a lent graph, a shot and its width, a list, and the slices row, marks and wrong: its answer, every word of the row, and demand 3 of the graph and the shot that it was handed. What marks and wrong hold after it is free.
+pub record Marks (l : Lent) (shot : List ℕ) (width : ℕ) (list row marks wrong : List ℕ) (r : Marking) (left : List ℕ) : Type 0 where
+  pub answers : r ≡ answerOf (checkMark l row marks wrong shot width) (markIn l shot list)
+  pub rows : left ≡ rowAfter (checkMark l row marks wrong shot width) row (markIn l shot list)
+  pub found : checkMark l row marks wrong shot width ≡ checked.Accepted → Found bySteps (graphIn l) (litOf (l .detectors) shot)

@@ -3,11 +3,8 @@ use codes::Checked;
 use marking::Marking;
 ghost use mathlib.Core.Path.{_≡_};
 ghost use lib.ListN.{length};
-ghost use Rattle.codes.specs.declared.Checked.the-variants.{Accepted};
-ghost use Rattle.steps.specs.Call.{litOf};
-ghost use Rattle.steps.specs.Found.{Found, bySteps};
-ghost use Rattle.calls.specs.Call.{lentOf, graphIn};
-ghost use Rattle.marker.specs.Answer.{markerLong, checkMark, markIn, answerOf, rowAfter};
+ghost use Rattle.calls.specs.Call.{lentOf};
+ghost use Rattle.marker.specs.Answer.{markerLong, Marks};
 
 // 2: the row, and the scratch for the edges met and the wrong detectors, are as long as the counts need.
 fn long(
@@ -45,12 +42,7 @@ pub fn mark(
     marks: &mut [u64],
     wrong: &mut [u64],
 ) -> Marking
-    ensures answers { λ r. ⌜ (let l = lentOf detectors observables edges (now («edge_u» .entry)) (now («edge_v» .entry)) (now («edge_weight» .entry)) (now («edge_obs» .entry)) in
-        r ≡ answerOf (checkMark l (now (row .entry)) (now (marks .entry)) (now (wrong .entry)) (now (shot .entry)) width) (markIn l (now (shot .entry)) (now (list .entry)))) ⌝ }
-    ensures rows { λ _. ⌜ (let l = lentOf detectors observables edges (now («edge_u» .entry)) (now («edge_v» .entry)) (now («edge_weight» .entry)) (now («edge_obs» .entry)) in
-        now (row .exit) ≡ rowAfter (checkMark l (now (row .entry)) (now (marks .entry)) (now (wrong .entry)) (now (shot .entry)) width) (now (row .entry)) (markIn l (now (shot .entry)) (now (list .entry)))) ⌝ }
-    ensures found { λ _. ⌜ (let l = lentOf detectors observables edges (now («edge_u» .entry)) (now («edge_v» .entry)) (now («edge_weight» .entry)) (now («edge_obs» .entry)) in
-        checkMark l (now (row .entry)) (now (marks .entry)) (now (wrong .entry)) (now (shot .entry)) width ≡ Accepted → Found bySteps (graphIn l) (litOf detectors (now (shot .entry)))) ⌝ }
+    ensures { λ r. ⌜ Marks (lentOf detectors observables edges (now («edge_u» .entry)) (now («edge_v» .entry)) (now («edge_weight» .entry)) (now («edge_obs» .entry))) (now (shot .entry)) width (now (list .entry)) (now (row .entry)) (now (marks .entry)) (now (wrong .entry)) r (now (row .exit)) ⌝ }
 {
     let enough = long(detectors, observables, edges, row, marks, wrong);
     let checked = calls::check_call(
