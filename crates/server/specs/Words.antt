@@ -3,7 +3,10 @@ use mathlib.Core.Path.{_≡_}
 use Rattle.codes.specs.Codes.{codeOf, firstOf, secondOf}
 use Rattle.graph.specs.declared.Compiled.{Compiled}
 use Rattle.graph.specs.declared.Compiled.the-variants as compiled
+use Rattle.marking.specs.declared.Marking.{Marking}
+use Rattle.marking.specs.declared.Marking.the-variants as marking
 use Rattle.server.specs.declared.GraphWords.{GraphWords}
+use Rattle.server.specs.declared.MarkWords.{MarkWords}
 
 -- what an export promises: its words are those of an answer of which the call's own promise P holds
 pub record InWords {A W : Type 0} (words : A → W) (P : A → Type 0) (r : W) : Type 0 where
@@ -16,3 +19,10 @@ pub record InWords {A W : Type 0} (words : A → W) (P : A → Type 0) (r : W) :
 abbrev pub wordsOfGraph : Compiled → GraphWords
 wordsOfGraph (compiled.Edges n) = record { code = 0; first = 0; second = 0; edges = n }
 wordsOfGraph (compiled.Refused r) = record { code = codeOf r; first = firstOf r; second = secondOf r; edges = 0 }
+
+-- ---- the marker
+
+abbrev pub wordsOfMark : Marking → MarkWords
+wordsOfMark marking.Pass = record { code = 0; first = 0; second = 0; passed = 1; detector = 0 }
+wordsOfMark (marking.Differs d) = record { code = 0; first = 0; second = 0; passed = 0; detector = d }
+wordsOfMark (marking.Refused r) = record { code = codeOf r; first = firstOf r; second = secondOf r; passed = 0; detector = 0 }

@@ -1,15 +1,18 @@
 // The C exports, all of them. Each takes numbers and slices, checks what it is handed and answers with a struct by value.
 use codes::Refusal;
 use graph::Compiled;
+use marking::Marking;
 use scratch::Lengths;
 ghost use mathlib.Core.Path.{_≡_};
+ghost use Rattle.calls.specs.Call.{lentOf};
+ghost use Rattle.marker.specs.Answer.{Marks};
 ghost use Rattle.dem.specs.Positions.{tables};
 ghost use Rattle.graph.specs.Tables.{slices};
 ghost use Rattle.graph.specs.Outcome.{outcome, Compiles};
 ghost use Prim.Native.Nat.{_≤_};
 ghost use Rattle.codes.specs.Limits.{maxMechanisms};
 ghost use Rattle.server.specs.Lengths.{within, decodeLengths, decomposeWith, decomposeLengths, compileWith, compileLengths, markWith, markLengths};
-ghost use Rattle.server.specs.Words.{InWords, wordsOfGraph};
+ghost use Rattle.server.specs.Words.{InWords, wordsOfGraph, wordsOfMark};
 
 // The answer of compiling.
 #[repr(C)]
@@ -204,4 +207,77 @@ pub extern "C" fn pavrenni_mark_lengths_for(detectors: usize, edges: usize) -> M
         return mark_lengths(0, 0);
     }
     mark_lengths(detectors, edges)
+}
+
+// The answer of the marker: passed is 1 or 0, and where it is 0 the detector is the lowest wrong one.
+#[repr(C)]
+pub struct MarkWords {
+    pub code: u32,
+    pub first: usize,
+    pub second: usize,
+    pub passed: u32,
+    pub detector: u32,
+}
+
+fn mark_words(a: Marking) -> MarkWords
+    ensures { λ r. ⌜ r ≡ wordsOfMark a ⌝ }
+{
+    match a {
+        Marking::Pass => MarkWords {
+            code: 0,
+            first: 0,
+            second: 0,
+            passed: 1,
+            detector: 0,
+        },
+        Marking::Differs { detector } => MarkWords {
+            code: 0,
+            first: 0,
+            second: 0,
+            passed: 0,
+            detector: detector,
+        },
+        Marking::Refused(r) => MarkWords {
+            code: codes::code(r) as u32,
+            first: codes::first_value(r),
+            second: codes::second_value(r) as usize,
+            passed: 0,
+            detector: 0,
+        },
+    }
+}
+
+#[no_mangle]
+pub extern "C" fn pavrenni_mark(
+    detectors: usize,
+    observables: usize,
+    edges: usize,
+    edge_u: &[u32],
+    edge_v: &[u32],
+    edge_weight: &[f64],
+    edge_obs: &[u64],
+    shot: &[u64],
+    width: usize,
+    list: &[u32],
+    row: &mut [u64],
+    marks: &mut [u64],
+    wrong: &mut [u64],
+) -> MarkWords
+    ensures { λ r. ⌜ InWords wordsOfMark (λ a. Marks (lentOf detectors observables edges (now («edge_u» .entry)) (now («edge_v» .entry)) (now («edge_weight» .entry)) (now («edge_obs» .entry))) (now (shot .entry)) width (now (list .entry)) (now (row .entry)) (now (marks .entry)) (now (wrong .entry)) a (now (row .exit))) r ⌝ }
+{
+    mark_words(marker::mark(
+        detectors,
+        observables,
+        edges,
+        edge_u,
+        edge_v,
+        edge_weight,
+        edge_obs,
+        shot,
+        width,
+        list,
+        row,
+        marks,
+        wrong,
+    ))
 }
