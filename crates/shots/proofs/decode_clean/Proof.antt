@@ -3,7 +3,8 @@ use mathlib.Core.Path.{refl, _∙_}
 use native.Mathlib.Omega.{arith}
 use Rattle.shot_answer.specs.Shots.{graphIn}
 use Rattle.shot_answer.proofs.Joins.{lit-listed, left, small, space}
-use Rattle.shots.proofs.Laws.{room, relit}
+use Rattle.shot_rounds.proofs.Laws.{relit}
+use Rattle.shots.proofs.Laws.{room}
 use Rattle.shot_growth.proofs.Laws.{lighting, lit-row, rep-start}
 use borrow.Author.Needs.{needs}
 use Rattle.shots.proofs.decode_clean.Statement.{statement}

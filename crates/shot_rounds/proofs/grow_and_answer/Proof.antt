@@ -1,4 +1,4 @@
--- `shots::grow_and_answer` meets its contract. The invariant: the tables hold the state after so many rounds, and growth from there on is the whole growth.
+-- `shot_rounds::grow_and_answer` meets its contract. The invariant: the tables hold the state after so many rounds, and growth from there on is the whole growth.
 use Prim.Native.Nat.{ℕ, suc, _-_, _+_, _≤_, _<_}
 use mathlib.Core.Path.{_≡_, refl, sym, ap, _∙_}
 use native.Mathlib.Omega.{arith}
@@ -12,9 +12,9 @@ use Rattle.growth_state.specs.Rep.{Rep, stateOf}
 use Rattle.growth.proofs.Turns.{rep-own, same-space, rounds-few, settles, gets-stuck, rep-on, trues-on, trues-most, so-on, starts}
 use Rattle.shot_answer.specs.Shots.{graphIn, shotOf}
 use Rattle.shot_answer.proofs.Joins as joins
-use Rattle.shots.proofs.Laws.{left-on, relit}
-use Rattle.shots.proofs.grow_and_answer.Statement.{statement}
-use Rattle.shots.proofs.grow_and_answer.Tie as tie
+use Rattle.shot_rounds.proofs.Laws.{left-on, relit}
+use Rattle.shot_rounds.proofs.grow_and_answer.Statement.{statement}
+use Rattle.shot_rounds.proofs.grow_and_answer.Tie as tie
 
 abbrev Inv-loop : tie.InvT-loop
 Inv-loop detectors observables edge-u edge-v edge-weight edge-obs adj-offsets adj-edge adj-far row list defects l seen₀ active₀ front₀ touched₀ cnt₀ fresh₀ order-edge order-parent lit₀ growth₀ sat₀ known₀ parent₀ odd₀ boundary-edge₀ hot₀ free₀ live₀ bits₀ n₀ a₀ rounds₀ seen active front touched cnt fresh lit growth sat known parent odd boundary-edge hot free live bits n a rounds = Rep (weighted detectors edge-u edge-v edge-weight) lit (stateOf detectors growth sat parent active a) growth sat parent active a odd boundary-edge known seen n hot free live bits

@@ -1,0 +1,2 @@
+-- What the rounds keep.
+pub mod Laws
