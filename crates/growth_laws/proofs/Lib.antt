@@ -1,0 +1,4 @@
+-- The laws of growth, proved: `Proved.growth-laws`. The other modules lead up to it.
+pub mod Signs
+pub mod Reached
+pub mod Rooms

@@ -1,0 +1,2 @@
+-- The laws of growth on accepted weights.
+pub mod Laws
