@@ -2,3 +2,5 @@
 pub mod Signs
 pub mod Reached
 pub mod Rooms
+pub mod Places
+pub mod Proved
