@@ -8,35 +8,38 @@ use Rattle.steps.specs.Graph.{Graph}
 use Rattle.steps.specs.Growth.{after, leastOf}
 use Rattle.steps.specs.Call.{AcceptedGraph}
 use Rattle.steps.specs.Laws.{Grows, counted}
-use Rattle.growth_laws.specs.Laws.{Least, GrowthLaws}
+use Rattle.growth_laws.specs.Laws.{Least, GrowthLaws, Statement}
 use Rattle.found.proofs.Accepted.{accepted-ends}
 use Rattle.found.proofs.GrowthLaws.{laws}
-use Rattle.growth_laws.proofs.Rooms.{no-nan}
+use Rattle.growth_laws.proofs.Rooms.{unsaturated, least-zero, no-nan}
 use Rattle.growth_laws.proofs.Places.{merged}
 
 module _ (g : Graph) (ok : AcceptedGraph g) (lit : List Bool) where
   grows : Grows g lit
   grows = laws g (accepted-ends g ok) .grows lit
 
-  least : (k e : ℕ) → member e (counted g lit (after g lit k)) ≡ true → Least g lit (after g lit k)
+  least : (k e : ℕ) → member e (counted g lit (after g lit k)) ≡ true → Least g lit (after g lit k) (leastOf g lit (after g lit k) (counted g lit (after g lit k)))
   least k e m =
-      let s = after g lit k in
-      let b = leastOf g lit s (counted g lit s) in
       let c = grows .chosen k e m in
       record {
         among = c .among;
-        gives = c .gives-too (no-nan g ok lit k (b .edge) (c .among));
+        gives = c .gives-too (no-nan g ok lit k _ (c .among));
+        from = least-zero g ok lit k;
         least = c .least;
         lowest = λ a n h. c .lowest a n h (no-nan g ok lit k a n);
       }
 
-  pub growth-laws : GrowthLaws g lit
+  all : GrowthLaws g lit
   unfolding after
-  growth-laws = record {
-    noNan = no-nan g ok lit;
+  all = record {
+    unsaturated = unsaturated g ok lit;
+    no-nan = no-nan g ok lit;
     least = least;
     stays = grows .stays;
     clustered = grows .clustered;
     ordered = grows .ordered;
     merged = λ k. merged g lit (after g lit k);
   }
+
+pub growth-laws : Statement
+growth-laws = all

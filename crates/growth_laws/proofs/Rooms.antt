@@ -1,6 +1,7 @@
 -- An unsaturated edge of an accepted graph has grown to a finite value, from +0 to its weight. So no edge gives NaN.
 use Prim.Native.Nat.{ℕ, zero, suc, _+_, _*_, _<_}
 use native.Mathlib.Nat.{mul-one, zero-mul}
+use native.Mathlib.Omega.{arith}
 use mathlib.Core.Path.{_≡_, refl, sym, ap, _∙_}
 use mathlib.Core.List.{List, [], _∷_, map}
 use mathlib.Core.Bool.{Bool, true, false, cond, not, _&&_, _||_}
@@ -22,7 +23,8 @@ use Rattle.steps.specs.Laws.{counted}
 use Rattle.lists.proofs.Truth.{case-of, cond-case, clash, and-left, and-right, or-cases, or-left, or-right, or-intro, same-eqb}
 use Rattle.lists.proofs.Members.{member-filter, member-below, below-member, getD-below}
 use Rattle.found.proofs.Accepted.{accepted-weights}
-use Rattle.growth_laws.proofs.Signs.{Plus, FromZero, plus-from, from-number, size-none, div-from, mul-from, add-plus, sub-from}
+use Rattle.growth_laws.specs.Laws.{Unsaturated}
+use Rattle.growth_laws.proofs.Signs.{Plus, FromZero, plus-from, from-number, size-none, div-from, mul-from, add-plus, cross-le, sub-from}
 use Rattle.growth_laws.proofs.Reached.{Under, not-reached}
 
 -- ---- one edge
@@ -42,7 +44,22 @@ from-zero (fin true n d) h =
     size-none n d (sym (mul-one (n * up d)) ∙ sym q ∙ zero-mul (down d))
 from-zero (fin false n d) h = tt
 
--- an edge of weight w has grown to x: finite, from +0 to w
+-- and back
+zero-least : (x : Float) → FromZero x → le (fin false 0 (pos 0)) x ≡ true
+unfolding le lt eq
+zero-least nan p = absurd p
+zero-least (inf s) p = rw p
+zero-least (fin true n d) p = rw (p, zero-mul, zero-mul)
+zero-least (fin false n d) p = cross-le 0 n (pos 0) d (omega (arith, zero-mul (down d)))
+
+-- below infinity
+ends-finite : (x : Float) → finite x ≡ true → lt x (inf false) ≡ true
+unfolding lt
+ends-finite nan h = clash h refl
+ends-finite (inf s) h = clash h refl
+ends-finite (fin s m e) h = refl
+
+-- an edge of weight w has grown to x: finite, from +0 to w, and held by the format
 record Room (w x : Float) : Type 0 where
   plus : Plus x
   held : T (fits binary64 x)
@@ -165,6 +182,15 @@ module _ (g : Graph) (ok : AcceptedGraph g) (lit : List Bool) where
   unfolding after start
   rooms zero e h u = rw (getD-below (λ e. fin false 0 (pos 0)) nan (length (g .edge-u)) e h) (start-room (weight e) (accepted-weights g ok e h))
   rooms (suc n) e h u = next-rooms (after g lit n) (rooms n) e h u
+
+  pub unsaturated : (n e : ℕ) → e < length (g .edge-u) → getD (after g lit n .saturated) e false ≡ false → Unsaturated g (after g lit n) e
+  unsaturated n e h u =
+      let r = rooms n e h u in
+      let x = growthOf (after g lit n) e in
+      record { from = zero-least x (plus-from x (r .plus)); most = r .below .most; ends = ends-finite x (r .below .ends) }
+
+  pub least-zero : (n : ℕ) → le (fin false 0 (pos 0)) (leastOf g lit (after g lit n) (counted g lit (after g lit n)) .step) ≡ true
+  least-zero n = zero-least (b (after g lit n) (rooms n) .step) (inc-from (after g lit n) (rooms n))
 
   pub no-nan : (n e : ℕ) → member e (counted g lit (after g lit n)) ≡ true → isNan (stepOf g lit (after g lit n) e) ≡ false
   no-nan n e m =
