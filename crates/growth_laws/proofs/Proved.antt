@@ -5,13 +5,13 @@ use mathlib.Core.List.{List}
 use mathlib.Core.Bool.{Bool, true}
 use Rattle.lists.specs.Lists.{member}
 use Rattle.steps.specs.Graph.{Graph}
-use Rattle.steps.specs.Growth.{after, leastOf}
+use Rattle.steps.specs.Growth.{after, stepOf, leastOf}
 use Rattle.steps.specs.Call.{AcceptedGraph}
 use Rattle.steps.specs.Laws.{Grows, counted}
 use Rattle.growth_laws.specs.Laws.{Least, GrowthLaws, Statement}
 use Rattle.found.proofs.Accepted.{accepted-ends}
 use Rattle.found.proofs.GrowthLaws.{laws}
-use Rattle.growth_laws.proofs.Rooms.{unsaturated, least-zero, no-nan}
+use Rattle.growth_laws.proofs.Rooms.{unsaturated, least-zero, least-takes, no-nan}
 use Rattle.growth_laws.proofs.Places.{merged}
 
 module _ (g : Graph) (ok : AcceptedGraph g) (lit : List Bool) where
@@ -20,13 +20,17 @@ module _ (g : Graph) (ok : AcceptedGraph g) (lit : List Bool) where
 
   least : (k e : ℕ) → member e (counted g lit (after g lit k)) ≡ true → Least g lit (after g lit k) (leastOf g lit (after g lit k) (counted g lit (after g lit k)))
   least k e m =
+      let s = after g lit k in
+      let b = leastOf g lit s (counted g lit s) in
       let c = grows .chosen k e m in
+      let q : b .step ≡ stepOf g lit s (b .edge) = c .gives-too (no-nan g ok lit k (b .edge) (c .among)) in
       record {
         among = c .among;
-        gives = c .gives-too (no-nan g ok lit k _ (c .among));
+        gives = q;
         from = least-zero g ok lit k;
         least = c .least;
         lowest = λ a n h. c .lowest a n h (no-nan g ok lit k a n);
+        reaches = least-takes g ok lit k (b .edge) (c .among) (b .step) q;
       }
 
   all : GrowthLaws g lit

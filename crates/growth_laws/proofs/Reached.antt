@@ -16,6 +16,7 @@ use lib.Ieee.Positive.{through}
 use lib.Ieee.Scale.{finite}
 use borrow.Author.Tests.{leb-true, leb-false, lt-ltb, eq-eqb, ltb-false}
 use Rattle.lists.proofs.Truth.{case-of, clash, or-cases}
+use Rattle.rounding.proofs.Values.{Units}
 use Rattle.growth_laws.proofs.Signs.{Plus, FromZero, round-plus, le-cross, cross-le}
 
 -- ---- what the format holds is its own rounding
@@ -30,6 +31,14 @@ below a b c u v U q h =
 small-power : (k : ℕ) → 2 ^ k ≤ 2 ^ 1074 → k ≤ 1074
 small-power k h = case-of (leb k 1074) (λ t. leb-true k 1074 t) (λ f. absurd (lt-irrefl (2 ^ 1074) (lt-of-lt-of-le (pow-lt (leb-false k 1074 f)) h)))
 
+-- m * 2 ^ e is digits * 2 ^ shift of the format's smallest values, with as many digits as the format keeps
+record Whole (m : ℕ) (e : ℤ) : Type 0 where
+  digits : ℕ
+  shift : ℕ
+  kept : digits < 2 ^ 53
+  most : m * up e < 2 ^ 1024 * down e
+  value : m * up e * 2 ^ 1074 ≡ digits * 2 ^ shift * down e
+
 module _ (m : ℕ) (e : ℤ) (h : T (fits binary64 (fin false (suc m) e))) where
   -- the digits, the exponent and the size of what the format holds
   held : (suc m < 2 ^ 53) × (down e ≤ 2 ^ 1074) × (suc m * up e < 2 ^ 1024 * down e)
@@ -42,19 +51,27 @@ module _ (m : ℕ) (e : ℤ) (h : T (fits binary64 (fin false (suc m) e))) where
       let l = and-l (A && B && C) D h in
       (ltb→lt (suc m) (2 ^ 53) (and-r A B (and-l (A && B) C l)), leb→le (down e) (2 ^ 1074) (and-r (A && B) C l), ltb→lt (suc m * up e) (2 ^ 1024 * down e) (and-r (A && B && C) D h))
 
-  -- where it is so many times 2 ^ j of the format's smallest values
-  own-by : (j : ℕ) → suc m * up e * 2 ^ 1074 ≡ suc m * 2 ^ j * down e → HasValue (round binary64 false (suc m * up e) (down e)) false (suc m * up e) (down e)
-  own-by j q =
-      round-exact binary64 false (suc m * up e) (down e) (suc m) j (down-pos e) (held .0)
-      (lt-of-lt-of-le (below (suc m * up e) (suc m * 2 ^ j) (down e) (2 ^ 1074) (2 ^ 1024) (pow-pos 1074) q (held .2)) (le-of-eq (sym (pow-add 2 1074 1024)))) q
+  whole-by : (j : ℕ) → suc m * up e * 2 ^ 1074 ≡ suc m * 2 ^ j * down e → Whole (suc m) e
+  whole-by j q = record { digits = suc m; shift = j; kept = held .0; most = held .2; value = q }
+
+whole : (m : ℕ) (e : ℤ) → T (fits binary64 (fin false m e)) → Whole m e
+whole zero e h = record { digits = 0; shift = 0; kept = pow-pos 53; most = rw zero-mul (mul-pos (pow-pos 1024) (down-pos e)); value = simp zero-mul }
+whole (suc m) (pos k) h = whole-by m (pos k) h (k + 1074) (mul-assoc (suc m) (2 ^ k) (2 ^ 1074) ∙ ap (λ (z : ℕ). suc m * z) (sym (pow-add 2 k 1074)) ∙ sym (mul-one (suc m * 2 ^ (k + 1074))))
+whole (suc m) (negsuc k) h =
+    let l : suc k ≤ 1074 = small-power (suc k) (held m (negsuc k) h .1) in
+    whole-by m (negsuc k) h (1074 - suc k)
+    (ap (λ (z : ℕ). z * 2 ^ 1074) (mul-one (suc m)) ∙ ap (λ (z : ℕ). suc m * 2 ^ z) (sym (sub-add-cancel l)) ∙ ap (λ (z : ℕ). suc m * z) (pow-add 2 (1074 - suc k) (suc k)) ∙ sym (mul-assoc (suc m) (2 ^ (1074 - suc k)) (2 ^ suc k)))
+
+-- it is so many units
+pub held-units : (m : ℕ) (e : ℤ) → T (fits binary64 (fin false m e)) → (X : ℕ) × Units (fin false m e) X
+held-units m e h = let w = whole m e h in (w .digits * 2 ^ w .shift, (refl, w .value))
 
 own : (m : ℕ) (e : ℤ) → T (fits binary64 (fin false m e)) → HasValue (round binary64 false (m * up e) (down e)) false (m * up e) (down e)
-own zero e h = round-exact binary64 false (0 * up e) (down e) 0 0 (down-pos e) (pow-pos 53) (pow-pos 2098) (simp zero-mul)
-own (suc m) (pos k) h = own-by m (pos k) h (k + 1074) (mul-assoc (suc m) (2 ^ k) (2 ^ 1074) ∙ ap (λ (z : ℕ). suc m * z) (sym (pow-add 2 k 1074)) ∙ sym (mul-one (suc m * 2 ^ (k + 1074))))
-own (suc m) (negsuc k) h =
-    let l : suc k ≤ 1074 = small-power (suc k) (held m (negsuc k) h .1) in
-    own-by m (negsuc k) h (1074 - suc k)
-    (ap (λ (z : ℕ). z * 2 ^ 1074) (mul-one (suc m)) ∙ ap (λ (z : ℕ). suc m * 2 ^ z) (sym (sub-add-cancel l)) ∙ ap (λ (z : ℕ). suc m * z) (pow-add 2 (1074 - suc k) (suc k)) ∙ sym (mul-assoc (suc m) (2 ^ (1074 - suc k)) (2 ^ suc k)))
+own m e h =
+    let w = whole m e h in
+    round-exact binary64 false (m * up e) (down e) (w .digits) (w .shift) (down-pos e) (w .kept)
+    (lt-of-lt-of-le (below (m * up e) (w .digits * 2 ^ w .shift) (down e) (2 ^ 1074) (2 ^ 1024) (pow-pos 1074) (w .value) (w .most)) (le-of-eq (sym (pow-add 2 1074 1024))))
+    (w .value)
 
 -- ---- the order
 
@@ -96,7 +113,7 @@ under-infinity (inf t) s p q = rw (p, q)
 under-infinity (fin t n d) s p q = rw q
 
 -- -0 is at most what has a plus sign
-minus-under : (n : ℕ) (d : ℤ) (y : Float) → n ≡ 0 → Plus y → le (fin true n d) y ≡ true
+pub minus-under : (n : ℕ) (d : ℤ) (y : Float) → n ≡ 0 → Plus y → le (fin true n d) y ≡ true
 unfolding le lt eq
 minus-under n d nan z p = absurd p
 minus-under n d (inf s) z p = rw p

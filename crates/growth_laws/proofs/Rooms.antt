@@ -1,5 +1,5 @@
 -- An unsaturated edge of an accepted graph has grown to a finite value, from +0 to its weight. So no edge gives NaN.
-use Prim.Native.Nat.{ℕ, zero, suc, _+_, _*_, _<_}
+use Prim.Native.Nat.{ℕ, zero, suc, _+_, _*_, _^_, _≤_, _<_}
 use native.Mathlib.Nat.{mul-one, zero-mul}
 use native.Mathlib.Omega.{arith}
 use mathlib.Core.Path.{_≡_, refl, sym, ap, _∙_}
@@ -10,7 +10,7 @@ use lib.IntN.{ℤ, pos, negsuc}
 use lib.Dec.{T, eqb}
 use lib.ListN.{length, getD}
 use lib.Ieee as Ieee
-use lib.Ieee.{Float, nan, inf, fin, binary64, up, down, fits, add, sub, mul, div, le, lt, eq, ofInt, ofBits, isNan}
+use lib.Ieee.{Float, nan, inf, fin, binary64, up, down, fits, add, sub, neg, mul, div, le, lt, eq, ofInt, ofBits, isNan}
 use lib.Ieee.Fits.{add-fits}
 use lib.Ieee.Scale.{finite}
 use borrow.Author.Tests.{eqb-true, not-true}
@@ -23,9 +23,11 @@ use Rattle.steps.specs.Laws.{counted}
 use Rattle.lists.proofs.Truth.{case-of, cond-case, clash, and-left, and-right, or-cases, or-left, or-right, or-intro, same-eqb}
 use Rattle.lists.proofs.Members.{member-filter, member-below, below-member, getD-below}
 use Rattle.found.proofs.Accepted.{accepted-weights}
+use Rattle.rounding.proofs.Values.{int-units}
 use Rattle.growth_laws.specs.Laws.{Unsaturated}
 use Rattle.growth_laws.proofs.Signs.{Plus, FromZero, plus-from, from-number, size-none, div-from, mul-from, add-plus, cross-le, sub-from}
-use Rattle.growth_laws.proofs.Reached.{Under, not-reached}
+use Rattle.growth_laws.proofs.Reached.{Under, minus-under, not-reached}
+use Rattle.growth_laws.proofs.Takes.{takes-finite}
 
 -- ---- one edge
 
@@ -33,6 +35,14 @@ use Rattle.growth_laws.proofs.Reached.{Under, not-reached}
 zero-under : (w : Float) → weightFits w ≡ true → le (fin false 0 (pos 0)) w ≡ true
 unfolding weightFits
 zero-under w h = and-left (le (fin false 0 (pos 0)) w) (le w (fin false 1 (pos 10)) || eq w (inf false)) h
+
+-- a finite w is 1,024 at most
+within : (p : ℕ) (d : ℤ) → weightFits (fin false p d) ≡ true → le (fin false p d) (fin false 1 (pos 10)) ≡ true
+unfolding weightFits eq
+within p d h =
+    let w = fin false p d in
+    let limit = le w (fin false 1 (pos 10)) in
+    ⊎-elim {C = limit ≡ true} (λ t. t) (λ t. clash t refl) (or-cases limit (eq w (inf false)) (and-right (le (fin false 0 (pos 0)) w) (limit || eq w (inf false)) h))
 
 from-zero : (w : Float) → le (fin false 0 (pos 0)) w ≡ true → FromZero w
 unfolding le lt eq
@@ -49,7 +59,7 @@ zero-least : (x : Float) → FromZero x → le (fin false 0 (pos 0)) x ≡ true
 unfolding le lt eq
 zero-least nan p = absurd p
 zero-least (inf s) p = rw p
-zero-least (fin true n d) p = rw (p, zero-mul, zero-mul)
+zero-least (fin true n d) p = simp (p, zero-mul)
 zero-least (fin false n d) p = cross-le 0 n (pos 0) d (omega (arith, zero-mul (down d)))
 
 -- below infinity
@@ -102,6 +112,48 @@ ones true true h = inr refl
 ones true false h = inl refl
 ones false true h = inl refl
 ones false false h = clash h refl
+
+-- ---- an edge grown by its own step
+
+-- what w - x is rounded to, divided by n and taken n times, added to x
+abbrev full : Float → Float → Float → Float
+full w x c = add binary64 x (mul binary64 c (div binary64 (sub binary64 w x) c))
+
+takes-infinite : (m : ℕ) (e : ℤ) (k : ℕ) → le (inf false) (add binary64 (full (inf false) (fin false m e) (fin false 1 (pos k))) tolerance) ≡ true
+unfolding tolerance ofBits add sub neg mul div le lt eq
+takes-infinite m e k = refl
+
+-- more of plus sign
+more-plus : (x : Float) → Plus x → Plus (add binary64 x tolerance)
+more-plus x p = rw tolerance-is (go x p)
+  where
+    go : (x : Float) → Plus x → Plus (add binary64 x (fin false 0x112e0be826d695 (negsuc 81)))
+    go nan p = absurd p
+    go (inf s) p = unfold add in p
+    go (fin true m e) p = clash refl p
+    go (fin false m e) p = add-plus m e (fin false 0x112e0be826d695 (negsuc 81)) tt
+
+-- from 1 to 2
+of-two : (n : ℕ) → OneOrTwo n → (0 < n) × (n ≤ 2)
+of-two n (inl q) = (omega arith, omega arith)
+of-two n (inr q) = (omega arith, omega arith)
+
+takes : (n : ℕ) → OneOrTwo n → (w x : Float) → weightFits w ≡ true → Room w x → le w (add binary64 (full w x (ofInt binary64 (pos n))) tolerance) ≡ true
+takes n c w nan h r = absurd (r .plus)
+takes n c w (inf s) h r = clash (r .below .ends) refl
+takes n c w (fin true m e) h r = clash refl (r .plus)
+takes n c nan (fin false m e) h r = absurd (from-zero nan (zero-under nan h))
+takes n c (inf s) (fin false m e) h r = rw (from-zero (inf s) (zero-under (inf s) h)) (by (λ z. le (inf false) (add binary64 (full (inf false) (fin false m e) z) tolerance) ≡ true) n c (takes-infinite m e))
+takes n c (fin true p d) (fin false m e) h r =
+    let w = fin true p d in
+    let x = fin false m e in
+    let f = from-zero w (zero-under w h) in
+    minus-under p d (add binary64 (full w x (ofInt binary64 (pos n))) tolerance) f
+    (more-plus (full w x (ofInt binary64 (pos n))) (by (λ z. Plus (full w x z)) n c (λ k. add-plus m e (mul binary64 (fin false 1 (pos k)) (div binary64 (sub binary64 w x) (fin false 1 (pos k))))
+    (mul-from k (div binary64 (sub binary64 w x) (fin false 1 (pos k))) (div-from k (sub binary64 w x) (rest-from w x f r))))))
+takes n c (fin false p d) (fin false m e) h r =
+    let (s, t) = of-two n c in
+    rw tolerance-is (takes-finite n s t (ofInt binary64 (pos n)) (int-units n (omega arith)) p m d e (r .below .most) (within p d h) (r .held))
 
 -- ---- all edges
 
@@ -156,6 +208,13 @@ module _ (g : Graph) (ok : AcceptedGraph g) (lit : List Bool) where
     unfolding leastOf
     inc-from = least-from (record { edge = getD (counted g lit s) 0 0; step = inf false }) (counted g lit s) refl (λ e m. let (c, h) = of-counted e m in step-from e h c)
 
+    -- a counted edge that grows by its own step reaches its weight
+    step-takes : (e : ℕ) → e < length (g .edge-u) → isCounted g lit s e ≡ true → le (weight e) (add binary64 (grown g lit s (stepOf g lit s e) e) tolerance) ≡ true
+    unfolding grown stepOf
+    step-takes e h c =
+        let (o, n) = of-count s e c in
+        rw c (takes (count g lit s e) n (weight e) (growthOf s e) (accepted-weights g ok e h) (k e h o))
+
     -- the growth of a counted edge that does not saturate
     grown-room : (e : ℕ) → e < length (g .edge-u) → isCounted g lit s e ≡ true → saturates g lit s b e ≡ false → Room (weight e) (grown g lit s (b .step) e)
     unfolding saturates grown
@@ -191,6 +250,14 @@ module _ (g : Graph) (ok : AcceptedGraph g) (lit : List Bool) where
 
   pub least-zero : (n : ℕ) → le (fin false 0 (pos 0)) (leastOf g lit (after g lit n) (counted g lit (after g lit n)) .step) ≡ true
   least-zero n = zero-least (b (after g lit n) (rooms n) .step) (inc-from (after g lit n) (rooms n))
+
+  -- and the edge of the least gives the increment
+  pub least-takes : (n e : ℕ) → member e (counted g lit (after g lit n)) ≡ true → (x : Float) → x ≡ stepOf g lit (after g lit n) e
+      → le (weight e) (add binary64 (grown g lit (after g lit n) x e) tolerance) ≡ true
+  least-takes n e m x q =
+      let s = after g lit n in
+      let (c, h) = of-counted s (rooms n) e m in
+      rw q (step-takes s (rooms n) e h c)
 
   pub no-nan : (n e : ℕ) → member e (counted g lit (after g lit n)) ≡ true → isNan (stepOf g lit (after g lit n) e) ≡ false
   no-nan n e m =

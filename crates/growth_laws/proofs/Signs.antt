@@ -144,7 +144,12 @@ under-minus : (m n : ℕ) (e d : ℤ) → le (fin false m e) (fin true n d) ≡ 
 unfolding le lt eq
 under-minus m n e d h = eqb-true (m * up e * down d) 0 (and-right (eqb (m * up e * down d) (n * up d * down e)) (eqb (m * up e * down d) 0) h)
 
--- w less a g of w at most
+-- w less a g of w at most is one rounding
+pub sub-is : (n m : ℕ) (d e : ℤ) → le (fin false m e) (fin false n d) ≡ true
+    → sub binary64 (fin false n d) (fin false m e) ≡ round binary64 false (n * up d * down e - m * up e * down d) (down d * down e)
+unfolding sub add neg sum
+sub-is n m d e h = rw (le-ltb (n * up d * down e) (m * up e * down d) (le-cross m n e d h))
+
 pub sub-from : (w : Float) (m : ℕ) (e : ℤ) → FromZero w → le (fin false m e) w ≡ true → FromZero (sub binary64 w (fin false m e))
 unfolding sub add neg sum
 sub-from nan m e p h = p
@@ -153,6 +158,6 @@ sub-from (fin true n d) m e p h =
     let z = no-left (n * up d) (down e) (no-left n (up d) p) in
     round-minus (n * up d * down e + m * up e * down d) (down d * down e) (omega (arith, under-minus m n e d h)) (mul-pos (down-pos d) (down-pos e))
 sub-from (fin false n d) m e p h =
-    let a = n * up d * down e in
-    let b = m * up e * down d in
-    rw (le-ltb a b (le-cross m n e d h)) (plus-from (round binary64 false (a - b) (down d * down e)) (round-plus (a - b) (down d * down e)))
+    let c = down d * down e in
+    let a = n * up d * down e - m * up e * down d in
+    rw (sub-is n m d e h) (plus-from (round binary64 false a c) (round-plus a c))

@@ -42,6 +42,8 @@ pub record Least (g : Graph) (lit : List Bool) (s : State) (b : Growth.Least) : 
   pub least : (e : ℕ) → member e (counted g lit s) ≡ true → lt (stepOf g lit s e) (b .step) ≡ false
   -- and a counted edge with a lower number gives more
   pub lowest : (e : ℕ) → member e (counted g lit s) ≡ true → e < b .edge → lt (b .step) (stepOf g lit s e) ≡ true
+  -- "The Rust's comparison already takes it": its growth + 1e-9 is at least its weight
+  pub reaches : le (getD (g .edge-weight) (b .edge) nan) (add binary64 (grown g lit s (b .step) (b .edge)) tolerance) ≡ true
 
 -- ---- the order of the active clusters
 
