@@ -2,6 +2,7 @@
 pub mod Signs
 pub mod Reached
 pub mod Takes
+pub mod Edges
 pub mod Rooms
 pub mod Places
 pub mod Proved

@@ -1,12 +1,10 @@
 -- The order of the active clusters after a round, by their parts in the order before it.
-use Prim.Native.Nat.{ℕ, suc, _<_}
+use Prim.Native.Nat.{ℕ, suc}
 use native.Mathlib.Omega.{arith}
 use mathlib.Core.Path.{_≡_, refl, sym, _∙_}
 use mathlib.Core.List.{List, [], _∷_, map}
 use mathlib.Core.Bool.{Bool, true, false, cond, not, _&&_}
-use mathlib.Core.Logic.{_↔_}
 use lib.Dec.{eqb, ltb, leb·suc-suc}
-use lib.ListN.{getD}
 use borrow.Author.Tests.{eqb-true, ltb-true, lt-ltb, le-ltb}
 use Rattle.lists.specs.Lists.{filter, member, firsts}
 use Rattle.steps.specs.Graph.{Graph}

@@ -11,7 +11,7 @@ use Rattle.steps.specs.Laws.{Grows, counted}
 use Rattle.growth_laws.specs.Laws.{Least, GrowthLaws, Statement}
 use Rattle.found.proofs.Accepted.{accepted-ends}
 use Rattle.found.proofs.GrowthLaws.{laws}
-use Rattle.growth_laws.proofs.Rooms.{unsaturated, least-zero, least-takes, no-nan}
+use Rattle.growth_laws.proofs.Rooms.{unsaturated, no-nan, increment-least, reaches}
 use Rattle.growth_laws.proofs.Places.{merged}
 
 module _ (g : Graph) (ok : AcceptedGraph g) (lit : List Bool) where
@@ -27,10 +27,10 @@ module _ (g : Graph) (ok : AcceptedGraph g) (lit : List Bool) where
       record {
         among = c .among;
         gives = q;
-        from = least-zero g ok lit k;
+        from = increment-least g ok lit k;
         least = c .least;
         lowest = λ a n h. c .lowest a n h (no-nan g ok lit k a n);
-        reaches = least-takes g ok lit k (b .edge) (c .among) (b .step) q;
+        reaches = reaches g ok lit k (b .edge) (c .among) (b .step) q;
       }
 
   all : GrowthLaws g lit

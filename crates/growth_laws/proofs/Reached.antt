@@ -1,9 +1,9 @@
 -- A value that does not reach a weight, but for the tolerance, is finite and at most the weight. Assumes nothing.
 use Prim.Native.Nat.{ℕ, zero, suc, _+_, _-_, _*_, _%_, _^_, _≤_, _<_}
-use native.Mathlib.Nat.{le-trans, le-of-eq, lt-of-lt-of-le, lt-irrefl, zero-mul, mul-one, mul-comm, mul-assoc, mul-right-comm, add-mul, mul-pos, mul-lt-mul-of-pos-right, lt-of-mul-lt-mul-right, sub-add-cancel}
+use native.Mathlib.Nat.{le-of-eq, lt-of-lt-of-le, lt-irrefl, zero-mul, mul-one, mul-comm, mul-assoc, mul-right-comm, add-mul, mul-pos, mul-lt-mul-of-pos-right, lt-of-mul-lt-mul-right, sub-add-cancel}
 use native.Mathlib.Omega.{arith}
 use mathlib.Core.Path.{_≡_, refl, sym, ap, _∙_}
-use mathlib.Core.Bool.{Bool, true, false, not, _&&_, _||_}
+use mathlib.Core.Bool.{Bool, true, false, _&&_}
 use lib.IntN.{ℤ, pos, negsuc}
 use lib.Dec.{T, eqb, leb, ltb, leb→le, ltb→lt}
 use lib.Pow.{pow-pos, pow-add, pow-lt}
@@ -14,8 +14,8 @@ use lib.Ieee.Fits.{and-l, and-r, down-pos}
 use lib.Ieee.Order.{round-mono, le-of-values}
 use lib.Ieee.Positive.{through}
 use lib.Ieee.Scale.{finite}
-use borrow.Author.Tests.{leb-true, leb-false, lt-ltb, eq-eqb, ltb-false}
-use Rattle.lists.proofs.Truth.{case-of, clash, or-cases}
+use borrow.Author.Tests.{leb-true, leb-false, eq-eqb, ltb-false}
+use Rattle.lists.proofs.Truth.{case-of, clash}
 use Rattle.rounding.proofs.Values.{Units}
 use Rattle.growth_laws.proofs.Signs.{Plus, FromZero, round-plus, le-cross, cross-le}
 

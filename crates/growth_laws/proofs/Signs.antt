@@ -2,13 +2,13 @@
 use Prim.Native.Nat.{ℕ, zero, suc, _+_, _-_, _*_, _^_, _≤_, _<_}
 use native.Mathlib.Nat.{zero-lt-suc, zero-mul, mul-zero, mul-pos}
 use native.Mathlib.Omega.{arith}
-use mathlib.Core.Path.{_≡_, refl, sym, ap, _∙_}
-use mathlib.Core.Bool.{Bool, true, false, cond, _&&_, _||_}
+use mathlib.Core.Path.{_≡_, refl}
+use mathlib.Core.Bool.{Bool, true, false, _&&_, _||_}
 use mathlib.Core.Logic.{⊎-elim}
 use lib.IntN.{ℤ, pos}
 use lib.Dec.{eqb, ltb, lit<}
 use lib.Pow.{pow-pos}
-use lib.Ieee.{Float, nan, inf, fin, binary64, prec, low, up, down, size, odd, units, round, sum, neg, add, sub, mul, div, lt, eq, le, isNan}
+use lib.Ieee.{Float, nan, inf, fin, binary64, up, down, odd, units, round, sum, neg, add, sub, mul, div, lt, eq, le, isNan}
 use lib.Ieee.Exact.{HasValue, round-exact}
 use lib.Ieee.Fits.{up-pos, down-pos, round-is}
 use lib.Ieee.Order.{drop, kept}
