@@ -18,12 +18,12 @@ use Rattle.growth_laws.proofs.Signs.{Plus, FromZero, size-none, div-fro
 use Rattle.growth_laws.proofs.Reached.{Under, minus-under, not-reached}
 use Rattle.growth_laws.proofs.Takes.{takes-finite}
 
-abbrev zero64 : Float
-zero64 = fin false 0 (pos 0)
+abbrev plusZero : Float
+plusZero = fin false 0 (pos 0)
 
 -- ---- from 0
 
-pub zero-least : (x : Float) → FromZero x → le zero64 x ≡ true
+pub zero-least : (x : Float) → FromZero x → le plusZero x ≡ true
 unfolding le lt eq
 zero-least nan p = absurd p
 zero-least (inf s) p = rw p
@@ -31,7 +31,7 @@ zero-least (fin true n d) p = simp (p, zero-mul)
 zero-least (fin false n d) p = cross-le 0 n (pos 0) d (omega (arith, zero-mul (down d)))
 
 -- and back
-from-least : (x : Float) → le zero64 x ≡ true → FromZero x
+from-least : (x : Float) → le plusZero x ≡ true → FromZero x
 unfolding le lt eq
 from-least nan h = clash h refl
 from-least (inf true) h = clash h refl
@@ -43,9 +43,9 @@ from-least (fin false n d) h = tt
 
 -- ---- a weight that fits
 
-weight-least : (w : Float) → weightFits w ≡ true → le zero64 w ≡ true
+weight-least : (w : Float) → weightFits w ≡ true → le plusZero w ≡ true
 unfolding weightFits
-weight-least w h = and-left (le zero64 w) (le w (fin false 1 (pos 10)) || eq w (inf false)) h
+weight-least w h = and-left (le plusZero w) (le w (fin false 1 (pos 10)) || eq w (inf false)) h
 
 weight-from : (w : Float) → weightFits w ≡ true → FromZero w
 weight-from w h = from-least w (weight-least w h)
@@ -56,7 +56,7 @@ unfolding weightFits eq
 weight-most p d h =
     let w = fin false p d in
     let low = le w (fin false 1 (pos 10)) in
-    ⊎-elim {C = low ≡ true} (λ t. t) (λ t. clash t refl) (or-cases low (eq w (inf false)) (and-right (le zero64 w) (low || eq w (inf false)) h))
+    ⊎-elim {C = low ≡ true} (λ t. t) (λ t. clash t refl) (or-cases low (eq w (inf false)) (and-right (le plusZero w) (low || eq w (inf false)) h))
 
 -- ---- what an edge that is not saturated has grown to
 
@@ -67,7 +67,7 @@ pub record Room (w x : Float) : Type 0 where
   pub below : Under w x
 
 -- before the first round
-pub start-room : (w : Float) → weightFits w ≡ true → Room w zero64
+pub start-room : (w : Float) → weightFits w ≡ true → Room w plusZero
 unfolding fits
 start-room w h = record { plus = refl; held = tt; below = record { ends = refl; most = weight-least w h } }
 

@@ -14,7 +14,7 @@ use Rattle.steps.specs.Graph.{Graph, inner, outer, edges, isPair}
 use Rattle.steps.specs.Growth.{State, Least, one, tolerance, labelOf, count, isCounted, stepOf, least, leastOf, grown, saturates, start, next, after}
 use Rattle.steps.specs.Call.{AcceptedGraph}
 use Rattle.steps.specs.Laws.{counted}
-use Rattle.growth_laws.specs.Laws.{Unsaturated, NoNan}
+use Rattle.growth_laws.specs.Laws.{Unsaturated, reached, NoNan}
 use Rattle.lists.proofs.Truth.{case-of, cond-case, clash, and-left, and-right, or-left, or-right, or-intro, same-eqb}
 use Rattle.lists.proofs.Members.{member-filter, member-below, getD-below}
 use Rattle.found.proofs.Accepted.{accepted-weights}
@@ -128,9 +128,10 @@ module _ (g : Graph) (ok : AcceptedGraph g) (lit : List Bool) where
   increment-least n = let s = after g lit n in zero-least (b s (rooms n) .step) (increment-from s (rooms n))
 
   -- where the increment is what e gives, e reaches its weight
-  pub reaches : (n e : ℕ) → member e (counted g lit (after g lit n)) ≡ true → (x : Float) → x ≡ stepOf g lit (after g lit n) e
-      → le (weight e) (add binary64 (grown g lit (after g lit n) x e) tolerance) ≡ true
-  reaches n e m x q =
+  pub taken : (n e : ℕ) → member e (counted g lit (after g lit n)) ≡ true → leastOf g lit (after g lit n) (counted g lit (after g lit n)) .step ≡ stepOf g lit (after g lit n) e
+      → reached g (next g lit (after g lit n)) e ≡ true
+  unfolding next
+  taken n e m q =
       let s = after g lit n in
       let (c, h) = of-counted s e m in
-      rw q (step-takes s (rooms n) e h c)
+      rw (getD-below (grown g lit s (b s (rooms n) .step)) nan (length (g .edge-u)) e h, q) (step-takes s (rooms n) e h c)

@@ -83,13 +83,6 @@ no-right b m q = rw (q, mul-zero)
 
 -- ---- the operations of a round
 
--- 1 and 2, by which a round multiplies and divides
-abbrev pub one : Float
-one = fin false 1 (pos 0)
-
-abbrev pub two : Float
-two = fin false 1 (pos 1)
-
 module _ (k : ℕ) where
   -- by 2 ^ k
   abbrev power : Float

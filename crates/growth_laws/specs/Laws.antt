@@ -2,29 +2,30 @@
 use Prim.Native.Nat.{ℕ, suc, _<_}
 use mathlib.Core.Path.{_≡_}
 use mathlib.Core.List.{List, [], _∷_}
-use mathlib.Core.Bool.{Bool, true, false, cond}
+use mathlib.Core.Bool.{Bool, true, false, cond, _&&_, _||_}
 use mathlib.Core.Logic.{_↔_}
 use lib.Dec.{eqb}
 use lib.ListN.{length, getD}
 use lib.IntN.{pos}
-use lib.Ieee.{Float, nan, inf, fin, binary64, add, lt, le, isNan}
+use lib.Ieee.{nan, inf, fin, binary64, add, lt, le, isNan}
 use Rattle.lists.specs.Lists.{member}
 use Rattle.steps.specs.Graph.{Graph}
 use Rattle.steps.specs.Growth as Growth
-use Rattle.steps.specs.Growth.{State, tolerance, labelOf, stepOf, leastOf, grown, after}
+use Rattle.steps.specs.Growth.{State, tolerance, labelOf, isCounted, stepOf, leastOf, next, after}
 use Rattle.steps.specs.Call.{AcceptedGraph}
 use Rattle.steps.specs.Laws.{Clustered, Ordered, counted}
 
 -- ---- the edges between two rounds
 
-abbrev zero64 : Float
-zero64 = fin false 0 (pos 0)
-
 -- an edge that is not saturated has grown to a finite value, from 0 to its weight
 pub record Unsaturated (g : Graph) (s : State) (e : ℕ) : Type 0 where
-  pub from : le zero64 (getD (s .growth) e nan) ≡ true
+  pub from : le (fin false 0 (pos 0)) (getD (s .growth) e nan) ≡ true
   pub most : le (getD (s .growth) e nan) (getD (g .edge-weight) e nan) ≡ true
   pub ends : lt (getD (s .growth) e nan) (inf false) ≡ true
+
+-- "growth + 1e-9 is at least its weight"
+abbrev pub reached : Graph → State → ℕ → Bool
+reached g s e = le (getD (g .edge-weight) e nan) (add binary64 (getD (s .growth) e nan) tolerance)
 
 -- ---- the least of a round
 
@@ -37,13 +38,13 @@ pub record Least (g : Graph) (lit : List Bool) (s : State) (b : Growth.Least) : 
   pub among : member (b .edge) (counted g lit s) ≡ true
   -- the increment is what the edge gives, 0 at least;
   pub gives : b .step ≡ stepOf g lit s (b .edge)
-  pub from : le zero64 (b .step) ≡ true
+  pub from : le (fin false 0 (pos 0)) (b .step) ≡ true
   -- no counted edge gives less,
   pub least : (e : ℕ) → member e (counted g lit s) ≡ true → lt (stepOf g lit s e) (b .step) ≡ false
   -- and a counted edge with a lower number gives more
   pub lowest : (e : ℕ) → member e (counted g lit s) ≡ true → e < b .edge → lt (b .step) (stepOf g lit s e) ≡ true
-  -- "The Rust's comparison already takes it": its growth + 1e-9 is at least its weight
-  pub reaches : le (getD (g .edge-weight) (b .edge) nan) (add binary64 (grown g lit s (b .step) (b .edge)) tolerance) ≡ true
+  -- "The Rust's comparison already takes it"
+  pub taken : reached g (next g lit s) (b .edge) ≡ true
 
 -- ---- the order of the active clusters
 
@@ -74,6 +75,9 @@ pub record GrowthLaws (g : Graph) (lit : List Bool) : Type 0 where
   pub no-nan : (k : ℕ) → NoNan g lit (after g lit k)
   -- where an edge is counted, the least is chosen among the counted
   pub least : (k e : ℕ) → member e (counted g lit (after g lit k)) ≡ true → Least g lit (after g lit k) (leastOf g lit (after g lit k) (counted g lit (after g lit k)))
+  -- so a round saturates the counted edges that reach their weight, and no others
+  pub saturates : (k e : ℕ) → e < length (g .edge-u)
+      → getD (after g lit (suc k) .saturated) e false ≡ (getD (after g lit k .saturated) e false || (isCounted g lit (after g lit k) e && reached g (after g lit (suc k)) e))
   -- a saturated edge stays saturated
   pub stays : (k e : ℕ) → getD (after g lit k .saturated) e false ≡ true → getD (after g lit (suc k) .saturated) e false ≡ true
   -- a label is the lowest detector that saturated pair edges join to it
