@@ -16,7 +16,7 @@ use Rattle.lists.proofs.Truth.{clash, and-left, and-right, or-cases}
 use Rattle.rounding.proofs.Values.{int-units}
 use Rattle.growth_laws.proofs.Signs.{Plus, FromZero, size-none, div-from, mul-from, add-plus, cross-le, sub-from}
 use Rattle.growth_laws.proofs.Reached.{Under, minus-under, not-reached}
-use Rattle.growth_laws.proofs.Takes.{takes-finite}
+use Rattle.growth_laws.proofs.Takes.{nearly, takes-finite}
 
 abbrev plusZero : Float
 plusZero = fin false 0 (pos 0)
@@ -85,7 +85,7 @@ sum-plus w (inf s) y r f = clash (r .below .ends) refl
 sum-plus w (fin true m e) y r f = clash refl (r .plus)
 sum-plus w (fin false m e) y r f = add-plus m e y f
 
-tolerance-is : tolerance ≡ fin false 0x112e0be826d695 (negsuc 81)
+tolerance-is : tolerance ≡ nearly
 unfolding tolerance ofBits
 tolerance-is = refl
 
@@ -95,7 +95,7 @@ unfolding add
 more-plus nan p = absurd p
 more-plus (inf s) p = rw tolerance-is p
 more-plus (fin true m e) p = clash refl p
-more-plus (fin false m e) p = rw tolerance-is (add-plus m e (fin false 0x112e0be826d695 (negsuc 81)) tt)
+more-plus (fin false m e) p = rw tolerance-is (add-plus m e nearly tt)
 
 -- ---- a round, by the edge's count
 

@@ -20,6 +20,10 @@ use Rattle.rounding.proofs.Ops.{under, add-op, mul-op, div-op}
 use Rattle.growth_laws.proofs.Signs.{le-cross, sub-is}
 use Rattle.growth_laws.proofs.Reached.{held-units}
 
+-- 1e-9
+abbrev pub nearly : Float
+nearly = fin false 0x112e0be826d695 (negsuc 81)
+
 -- ---- in units: names that do not unfold, so that `omega` meets no large literal
 
 -- 2 ^ -36
@@ -50,7 +54,7 @@ E-most : E ≤ 70 * u
 unfolding E u
 E-most = lit≤ tt
 
-E-units : Units (fin false 0x112e0be826d695 (negsuc 81)) E
+E-units : Units nearly E
 unfolding E
 E-units = (refl, refl)
 
@@ -174,10 +178,6 @@ module _ (U N A P b d : ℕ) (B : 0 < b) (D : 0 < d) (small : A ≤ N * b) (unde
       halved x y v h = omega arith
 
 module _ (n : ℕ) (some : 0 < n) (two : n ≤ 2) (c : Float) (is : Units c (n * U)) where
-  -- the tolerance
-  abbrev nearly : Float
-  nearly = fin false 0x112e0be826d695 (negsuc 81)
-
   -- X units are left of the weight, and G are grown
   sum-least : (x y : Float) (G X : ℕ) → Units x G → Units y X → G ≤ limit → X ≤ limit + u
       → (R : ℕ) × Units (add binary64 (add binary64 x (mul binary64 c (div binary64 y c))) nearly) R × (X + u + G ≤ R)
