@@ -73,7 +73,7 @@ fn run(
 }
 
 // Document 01's model: edge 0 joins detector 0 and the boundary and has observable 0, edge 1 joins detectors 0 and 1.
-fn model(what: &[u8], shot: &[u64], width: usize, list: &[u32]) {
+fn lent(what: &[u8], shot: &[u64], width: usize, list: &[u32]) {
     run(
         what,
         2,
@@ -89,17 +89,27 @@ fn model(what: &[u8], shot: &[u64], width: usize, list: &[u32]) {
     );
 }
 
+// A shot of its width.
+fn model(what: &[u8], shot: u64, list: &[u32]) {
+    lent(what, &[shot], 2, list);
+}
+
+// A list of one edge.
+fn one(what: &[u8], shot: &[u64], width: usize, e: u32) {
+    lent(what, shot, width, &[e]);
+}
+
 fn answers() {
-    model(b"none lit, no edges", &[0], 2, &[]);
-    model(b"D0 lit, edge 0", &[1], 2, &[0]);
-    model(b"D1 lit, edges 1 0", &[2], 2, &[1, 0]);
-    model(b"D1 lit, edges 0 1", &[2], 2, &[0, 1]);
-    model(b"both lit, edge 1", &[3], 2, &[1]);
-    model(b"both lit, no edges", &[3], 2, &[]);
-    model(b"D1 lit, no edges", &[2], 2, &[]);
-    model(b"D1 lit, edge 0", &[2], 2, &[0]);
-    model(b"D0 lit, edge 1", &[1], 2, &[1]);
-    model(b"none lit, edges 0 1", &[0], 2, &[0, 1]);
+    model(b"none lit, no edges", 0, &[]);
+    model(b"D0 lit, edge 0", 1, &[0]);
+    model(b"D1 lit, edges 1 0", 2, &[1, 0]);
+    model(b"D1 lit, edges 0 1", 2, &[0, 1]);
+    model(b"both lit, edge 1", 3, &[1]);
+    model(b"both lit, no edges", 3, &[]);
+    model(b"D1 lit, no edges", 2, &[]);
+    model(b"D1 lit, edge 0", 2, &[0]);
+    model(b"D0 lit, edge 1", 1, &[1]);
+    model(b"none lit, edges 0 1", 0, &[0, 1]);
 }
 
 // The pair edge alone.
@@ -143,28 +153,27 @@ fn others() {
 
 // 13.
 fn lists() {
-    model(b"D0 lit, edge 2", &[1], 2, &[2]);
+    model(b"D0 lit, edge 2", 1, &[2]);
     model(
         b"D0 lit, edges 0 and the highest number",
-        &[1],
-        2,
+        1,
         &[0, 4294967295],
     );
-    model(b"none lit, edge 0 twice", &[0], 2, &[0, 0]);
-    model(b"D1 lit, edges 0 1 0", &[2], 2, &[0, 1, 0]);
+    model(b"none lit, edge 0 twice", 0, &[0, 0]);
+    model(b"D1 lit, edges 0 1 0", 2, &[0, 1, 0]);
 }
 
 // 8, 9, 10.
 fn shots() {
-    model(b"no words", &[], 2, &[0]);
-    model(b"two words", &[1, 0], 2, &[0]);
-    model(b"word 4", &[4], 2, &[0]);
-    model(b"word 4, width 3", &[4], 3, &[0]);
-    model(b"word 1, width 1", &[1], 1, &[0]);
-    model(b"word 2, width 1", &[2], 1, &[0]);
-    model(b"two words, width 65", &[1, 0], 65, &[0]);
-    model(b"one word, width 65", &[1], 65, &[0]);
-    model(b"no words, widest", &[], 18446744073709551615, &[0]);
+    one(b"no words", &[], 2, 0);
+    one(b"two words", &[1, 0], 2, 0);
+    model(b"word 4", 4, &[0]);
+    one(b"word 4, width 3", &[4], 3, 0);
+    one(b"word 1, width 1", &[1], 1, 0);
+    one(b"word 2, width 1", &[2], 1, 0);
+    one(b"two words, width 65", &[1, 0], 65, 0);
+    one(b"one word, width 65", &[1], 65, 0);
+    one(b"no words, widest", &[], 18446744073709551615, 0);
 }
 
 // 5: the model with other ends or observables of edge 1, D0 lit, and edge 0 listed.
@@ -237,10 +246,10 @@ fn order() {
     faults(b"weight of edge 0, ends of edge 1", 0, 2, -1.0, &[1]);
     faults(b"ends and weight of edge 0", 2, 0, -1.0, &[1]);
     faults(b"ends of edge 1, no words", 0, 2, 1.0, &[]);
-    model(b"no words, width 1, edge 2", &[], 1, &[2]);
-    model(b"padding set, width 1, edge 2", &[2], 1, &[2]);
-    model(b"width 1, edge 2", &[1], 1, &[2]);
-    model(b"D1 lit, edge 2", &[2], 2, &[2]);
+    one(b"no words, width 1, edge 2", &[], 1, 2);
+    one(b"padding set, width 1, edge 2", &[2], 1, 2);
+    one(b"width 1, edge 2", &[1], 1, 2);
+    model(b"D1 lit, edge 2", 2, &[2]);
 }
 
 // 2: 65 edges, 65 detectors and 65 observables, so that the row and the scratch take two words each. D0 and D64 are lit,
