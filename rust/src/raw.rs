@@ -1,0 +1,412 @@
+//! The library's calls over tables and slices of any length, and its answers as they are.
+//!
+//! The types at the top of the crate are made of these. They are for a host that keeps its own memory, and for tests:
+//! every call checks counts and lengths itself, so a table that is too short is refused with code 2 and does no harm.
+//!
+//! ```
+//! use pavrenni::{raw, Graph};
+//!
+//! let graph = Graph { detectors: 2, edge_u: vec![0], edge_v: vec![1], edge_weight: vec![1.0], ..Graph::default() };
+//! let mut scratch = raw::Scratch::with_lengths(&raw::lengths(2, 1));
+//! scratch.growth.pop();
+//! let answer = raw::decode_shot(&graph, 1, &[3], 2, &mut [], &mut [0; 2], &mut scratch);
+//! assert_eq!(answer.code, 2);
+//! ```
+
+use crate::{sys, Graph, Packed};
+
+// ---- memory
+
+/// A model in flat tables, of any lengths: what decomposition and compiling read, and what decomposition writes.
+#[derive(Clone, Debug, Default, PartialEq)]
+pub struct Tables {
+    /// An entry a mechanism, in this and the next three.
+    pub probability: Vec<f64>,
+    pub detector_counts: Vec<u8>,
+    pub observable_counts: Vec<u8>,
+    pub component_counts: Vec<u8>,
+    /// An entry a component, those of mechanism 0 first, in this and the next.
+    pub component_detectors: Vec<u8>,
+    pub component_observables: Vec<u8>,
+    /// For each mechanism its detectors, its observables, then for each of its components the same.
+    pub entries: Vec<u32>,
+}
+
+/// Scratch slices, one vector each. What they hold before a call reaches no answer.
+macro_rules! scratch {
+    ($(#[$about:meta])* $name:ident of $lengths:ident { $($slice:ident: $entry:ty),* $(,)? }) => {
+        $(#[$about])*
+        #[derive(Clone, Debug, Default, PartialEq)]
+        pub struct $name {
+            $(pub $slice: Vec<$entry>),*
+        }
+
+        impl $name {
+            /// Each slice with the length told for it.
+            pub fn with_lengths(lengths: &sys::$lengths) -> Self {
+                Self { $($slice: vec![<$entry>::default(); lengths.$slice]),* }
+            }
+        }
+    };
+}
+
+scratch! {
+    /// The decoder's scratch slices.
+    Scratch of Lengths {
+        adj_offsets: u32,
+        adj_edge: u32,
+        adj_far: u32,
+        defects: u32,
+        seen: u32,
+        active: u32,
+        front: u32,
+        touched: u32,
+        cnt: u8,
+        fresh: u32,
+        order_edge: u32,
+        order_parent: u32,
+        lit: bool,
+        growth: f64,
+        sat: bool,
+        known: bool,
+        parent: u32,
+        odd: bool,
+        boundary_edge: u32,
+        hot: bool,
+        free: bool,
+        live: bool,
+        bits: u64,
+    }
+}
+
+scratch! {
+    /// The scratch slices of decomposition.
+    DecomposeScratch of DecomposeLengths {
+        starts: u32,
+        before: u32,
+        last_of: u32,
+        first_of: u32,
+        next_of: u32,
+        numbers: u32,
+        masks: u16,
+        words0: u64,
+        words1: u64,
+        earlier: u32,
+    }
+}
+
+scratch! {
+    /// The scratch slices of compiling.
+    CompileScratch of CompileLengths { edge_p: f64, first: u32, next: u32 }
+}
+
+scratch! {
+    /// The marker's scratch slices.
+    MarkScratch of MarkLengths { marks: u64, wrong: u64 }
+}
+
+/// The least lengths of the decoder's scratch slices; all 0 for counts over the limits.
+pub fn lengths(detectors: usize, edges: usize) -> sys::Lengths {
+    // SAFETY: numbers alone cross.
+    unsafe { sys::pavrenni_lengths_for(detectors, edges) }
+}
+
+/// The least lengths of the scratch slices of decomposition; all 0 for counts over the limits.
+pub fn decompose_lengths(detectors: usize, mechanisms: usize) -> sys::DecomposeLengths {
+    // SAFETY: numbers alone cross.
+    unsafe { sys::pavrenni_decompose_lengths_for(detectors, mechanisms) }
+}
+
+/// The least lengths of the scratch slices of compiling; all 0 for counts over the limits.
+pub fn compile_lengths(detectors: usize, mechanisms: usize) -> sys::CompileLengths {
+    // SAFETY: numbers alone cross.
+    unsafe { sys::pavrenni_compile_lengths_for(detectors, mechanisms) }
+}
+
+/// The least lengths of the marker's scratch slices; all 0 for counts over the limits.
+pub fn mark_lengths(detectors: usize, edges: usize) -> sys::MarkLengths {
+    // SAFETY: numbers alone cross.
+    unsafe { sys::pavrenni_mark_lengths_for(detectors, edges) }
+}
+
+// ---- calls: each slice and vector handed over is borrowed for the call, those that it writes mutably
+
+/// A call on a model in tables, with its own arguments after them.
+macro_rules! on_model {
+    ($call:ident, $counts:expr, $model:expr, $($own:expr),* $(,)?) => {{
+        let ([detectors, observables, mechanisms], model): ([usize; 3], &Tables) = ($counts, $model);
+        // SAFETY: every pointer comes from a borrowed slice or vector and crosses with its length.
+        unsafe {
+            sys::$call(
+                detectors,
+                observables,
+                mechanisms,
+                model.probability.as_ptr(),
+                model.probability.len(),
+                model.detector_counts.as_ptr(),
+                model.detector_counts.len(),
+                model.observable_counts.as_ptr(),
+                model.observable_counts.len(),
+                model.component_counts.as_ptr(),
+                model.component_counts.len(),
+                model.component_detectors.as_ptr(),
+                model.component_detectors.len(),
+                model.component_observables.as_ptr(),
+                model.component_observables.len(),
+                model.entries.as_ptr(),
+                model.entries.len(),
+                $($own),*
+            )
+        }
+    }};
+}
+
+/// A call on a lent graph, with its own arguments after its tables.
+macro_rules! on_graph {
+    ($call:ident, $graph:expr, $edges:expr, $($own:expr),* $(,)?) => {{
+        let (graph, edges): (&Graph, usize) = ($graph, $edges);
+        // SAFETY: every pointer comes from a borrowed slice or vector and crosses with its length.
+        unsafe {
+            sys::$call(
+                graph.detectors,
+                graph.observables,
+                edges,
+                graph.edge_u.as_ptr(),
+                graph.edge_u.len(),
+                graph.edge_v.as_ptr(),
+                graph.edge_v.len(),
+                graph.edge_weight.as_ptr(),
+                graph.edge_weight.len(),
+                graph.edge_obs.as_ptr(),
+                graph.edge_obs.len(),
+                $($own),*
+            )
+        }
+    }};
+}
+
+/// A call on a lent graph that decodes: the scratch slices come last.
+macro_rules! decoding {
+    ($call:ident, $graph:expr, $edges:expr, $scratch:expr, $($own:expr),* $(,)?) => {{
+        let s: &mut Scratch = $scratch;
+        on_graph!(
+            $call,
+            $graph,
+            $edges,
+            $($own,)*
+            s.adj_offsets.as_mut_ptr(),
+            s.adj_offsets.len(),
+            s.adj_edge.as_mut_ptr(),
+            s.adj_edge.len(),
+            s.adj_far.as_mut_ptr(),
+            s.adj_far.len(),
+            s.defects.as_mut_ptr(),
+            s.defects.len(),
+            s.seen.as_mut_ptr(),
+            s.seen.len(),
+            s.active.as_mut_ptr(),
+            s.active.len(),
+            s.front.as_mut_ptr(),
+            s.front.len(),
+            s.touched.as_mut_ptr(),
+            s.touched.len(),
+            s.cnt.as_mut_ptr(),
+            s.cnt.len(),
+            s.fresh.as_mut_ptr(),
+            s.fresh.len(),
+            s.order_edge.as_mut_ptr(),
+            s.order_edge.len(),
+            s.order_parent.as_mut_ptr(),
+            s.order_parent.len(),
+            s.lit.as_mut_ptr(),
+            s.lit.len(),
+            s.growth.as_mut_ptr(),
+            s.growth.len(),
+            s.sat.as_mut_ptr(),
+            s.sat.len(),
+            s.known.as_mut_ptr(),
+            s.known.len(),
+            s.parent.as_mut_ptr(),
+            s.parent.len(),
+            s.odd.as_mut_ptr(),
+            s.odd.len(),
+            s.boundary_edge.as_mut_ptr(),
+            s.boundary_edge.len(),
+            s.hot.as_mut_ptr(),
+            s.hot.len(),
+            s.free.as_mut_ptr(),
+            s.free.len(),
+            s.live.as_mut_ptr(),
+            s.live.len(),
+            s.bits.as_mut_ptr(),
+            s.bits.len(),
+        )
+    }};
+}
+
+/// `pavrenni_decompose`. The counts are of detectors, of observables and of mechanisms.
+pub fn decompose(counts: [usize; 3], model: &Tables, out: &mut Tables, scratch: &mut DecomposeScratch) -> sys::Model {
+    on_model!(
+        pavrenni_decompose,
+        counts,
+        model,
+        out.probability.as_mut_ptr(),
+        out.probability.len(),
+        out.detector_counts.as_mut_ptr(),
+        out.detector_counts.len(),
+        out.observable_counts.as_mut_ptr(),
+        out.observable_counts.len(),
+        out.component_counts.as_mut_ptr(),
+        out.component_counts.len(),
+        out.component_detectors.as_mut_ptr(),
+        out.component_detectors.len(),
+        out.component_observables.as_mut_ptr(),
+        out.component_observables.len(),
+        out.entries.as_mut_ptr(),
+        out.entries.len(),
+        scratch.starts.as_mut_ptr(),
+        scratch.starts.len(),
+        scratch.before.as_mut_ptr(),
+        scratch.before.len(),
+        scratch.last_of.as_mut_ptr(),
+        scratch.last_of.len(),
+        scratch.first_of.as_mut_ptr(),
+        scratch.first_of.len(),
+        scratch.next_of.as_mut_ptr(),
+        scratch.next_of.len(),
+        scratch.numbers.as_mut_ptr(),
+        scratch.numbers.len(),
+        scratch.masks.as_mut_ptr(),
+        scratch.masks.len(),
+        scratch.words0.as_mut_ptr(),
+        scratch.words0.len(),
+        scratch.words1.as_mut_ptr(),
+        scratch.words1.len(),
+        scratch.earlier.as_mut_ptr(),
+        scratch.earlier.len(),
+    )
+}
+
+/// `pavrenni_compile`, into the four tables of `out`. The counts are of detectors, of observables and of mechanisms.
+pub fn compile(counts: [usize; 3], model: &Tables, out: &mut Graph, scratch: &mut CompileScratch) -> sys::Graph {
+    on_model!(
+        pavrenni_compile,
+        counts,
+        model,
+        out.edge_u.as_mut_ptr(),
+        out.edge_u.len(),
+        out.edge_v.as_mut_ptr(),
+        out.edge_v.len(),
+        out.edge_weight.as_mut_ptr(),
+        out.edge_weight.len(),
+        out.edge_obs.as_mut_ptr(),
+        out.edge_obs.len(),
+        scratch.edge_p.as_mut_ptr(),
+        scratch.edge_p.len(),
+        scratch.first.as_mut_ptr(),
+        scratch.first.len(),
+        scratch.next.as_mut_ptr(),
+        scratch.next.len(),
+    )
+}
+
+/// `pavrenni_decode_shot`: XORs into the row and writes the list.
+pub fn decode_shot(
+    graph: &Graph,
+    edges: usize,
+    shot: &[u64],
+    width: usize,
+    row: &mut [u64],
+    list: &mut [u32],
+    scratch: &mut Scratch,
+) -> sys::Shot {
+    decoding!(
+        pavrenni_decode_shot,
+        graph,
+        edges,
+        scratch,
+        shot.as_ptr(),
+        shot.len(),
+        width,
+        row.as_mut_ptr(),
+        row.len(),
+        list.as_mut_ptr(),
+        list.len(),
+    )
+}
+
+/// `pavrenni_decode_batch`: a row a shot into `out`; the list is scratch.
+pub fn decode_batch(graph: &Graph, edges: usize, shots: Packed, out: &mut [u64], list: &mut [u32], scratch: &mut Scratch) -> sys::Batch {
+    decoding!(
+        pavrenni_decode_batch,
+        graph,
+        edges,
+        scratch,
+        shots.words.as_ptr(),
+        shots.words.len(),
+        shots.shots,
+        shots.width,
+        out.as_mut_ptr(),
+        out.len(),
+        list.as_mut_ptr(),
+        list.len(),
+    )
+}
+
+/// `pavrenni_mark`: writes the row where the list passes.
+pub fn mark(
+    graph: &Graph,
+    edges: usize,
+    shot: &[u64],
+    width: usize,
+    list: &[u32],
+    row: &mut [u64],
+    scratch: &mut MarkScratch,
+) -> sys::Mark {
+    on_graph!(
+        pavrenni_mark,
+        graph,
+        edges,
+        shot.as_ptr(),
+        shot.len(),
+        width,
+        list.as_ptr(),
+        list.len(),
+        row.as_mut_ptr(),
+        row.len(),
+        scratch.marks.as_mut_ptr(),
+        scratch.marks.len(),
+        scratch.wrong.as_mut_ptr(),
+        scratch.wrong.len(),
+    )
+}
+
+/// `pavrenni_rate`: the rows decoded into `out`; the list is scratch.
+pub fn rate(
+    graph: &Graph,
+    edges: usize,
+    shots: Packed,
+    truth: Packed,
+    out: &mut [u64],
+    list: &mut [u32],
+    scratch: &mut Scratch,
+) -> sys::Rate {
+    decoding!(
+        pavrenni_rate,
+        graph,
+        edges,
+        scratch,
+        shots.words.as_ptr(),
+        shots.words.len(),
+        shots.shots,
+        shots.width,
+        truth.words.as_ptr(),
+        truth.words.len(),
+        truth.shots,
+        truth.width,
+        out.as_mut_ptr(),
+        out.len(),
+        list.as_mut_ptr(),
+        list.len(),
+    )
+}
