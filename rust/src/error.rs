@@ -178,7 +178,7 @@ impl fmt::Display for Error {
             write!(f, "; the cluster of detector {detector} is stuck")?;
         }
         if let Some(rounds) = self.rounds {
-            write!(f, " after {rounds} rounds")?;
+            write!(f, ", rounds finished: {rounds}")?;
         }
         Ok(())
     }
