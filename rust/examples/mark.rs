@@ -8,7 +8,7 @@
 //! decoder's logical error rate on these shots. The exit status is 0 once all is marked, whatever the marks, and 1 where
 //! a file is wrong.
 
-use pavrenni::{frames, mark, Decoder, Error, Graph, Marking};
+use pavrenni::{frames, mark, Decoder, Error, Graph, Item, Marking};
 use std::fmt::Display;
 use std::io::{self, BufWriter, Write};
 use std::process::ExitCode;
@@ -64,7 +64,7 @@ fn report(recording: &frames::Recording, lists: &[Vec<u32>], graph: &Graph) -> i
         let marking = mark(graph, recording.shot(shot), graph.detectors, list, &mut row);
         writeln!(out, "shot {shot}: {}", counts.enter(marking))?;
     }
-    writeln!(out, "{} shots: {} Pass, {} Differs, {} refused", lists.len(), counts.passed, counts.differing, counts.refused)?;
+    writeln!(out, "shots {}: Pass {}, Differs {}, refused {}", lists.len(), counts.passed, counts.differing, counts.refused)?;
     match Decoder::new(graph).rate(graph, recording.packed(), recording.packed_truth()) {
         Ok(answer) => writeln!(out, "rate {}", answer.rate)?,
         Err(refusal) => writeln!(out, "rate refused with {refusal}")?,
@@ -86,7 +86,9 @@ impl Counts {
             }
             Err(refusal) => {
                 self.refused += 1;
-                format!("refused with {refusal}")
+                // the line names the shot, which the marker sees alone, as shot 0
+                let at = refusal.at.filter(|item| *item != Item::Shot(0));
+                format!("refused with {}", Error { at, ..refusal })
             }
         }
     }

@@ -74,11 +74,12 @@ impl Frame {
         if digits.is_empty() {
             return Err(Error::frame(Some(line), "the line is empty"));
         }
-        if digits.len() % 2 != 0 {
+        let pairs = digits.chunks_exact(2);
+        if !pairs.remainder().is_empty() {
             return Err(Error::frame(Some(line), "the number of digits is odd"));
         }
-        let mut bytes = Vec::with_capacity(digits.len() / 2);
-        for pair in digits.chunks_exact(2) {
+        let mut bytes = Vec::with_capacity(pairs.len());
+        for pair in pairs {
             match (digit(pair[0]), digit(pair[1])) {
                 (Some(high), Some(low)) => bytes.push(16 * high + low),
                 _ => return Err(Error::frame(Some(line), "a digit is not lower-case hexadecimal")),

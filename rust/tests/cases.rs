@@ -67,8 +67,11 @@ fn compiling_skips() {
 #[test]
 fn decomposing() {
     // 0.25 added to 0.25 is 0.375, by a cover
-    let mut model =
-        Model { detectors: 3, observables: 1, mechanisms: vec![mechanism(0.25, &[0], &[0]), mechanism(0.25, &[1, 2], &[]), mechanism(0.25, &[0, 1, 2], &[0])] };
+    let mut model = Model {
+        detectors: 3,
+        observables: 1,
+        mechanisms: vec![mechanism(0.25, &[0], &[0]), mechanism(0.25, &[1, 2], &[]), mechanism(0.25, &[0, 1, 2], &[0])],
+    };
     let covered = model.decompose().unwrap();
     assert_eq!(covered.mechanisms, [mechanism(0.375, &[0], &[0]), mechanism(0.375, &[1, 2], &[])]);
     assert_eq!((covered.detectors, covered.observables), (3, 1));

@@ -278,7 +278,11 @@ struct Compiling {
 
 /// Two mechanisms of one edge and one of another, 65 observables.
 fn compiled() -> Model {
-    Model { detectors: 3, observables: 65, mechanisms: vec![mechanism(0.25, &[0], &[64]), mechanism(0.25, &[1, 2], &[]), mechanism(0.125, &[0], &[])] }
+    Model {
+        detectors: 3,
+        observables: 65,
+        mechanisms: vec![mechanism(0.25, &[0], &[64]), mechanism(0.25, &[1, 2], &[]), mechanism(0.125, &[0], &[])],
+    }
 }
 
 impl Compiling {
@@ -418,7 +422,8 @@ fn lists_past_a_byte() {
     let at = |mechanism| Some(Item::Mechanism(mechanism));
     for entries in [17, 255, 256, 257, 272, 300, 512, 4096] {
         let list: Vec<u32> = (0..entries).collect();
-        let mut model = Model { detectors: 4096, observables: 128, mechanisms: vec![mechanism(0.25, &[0], &[]), mechanism(0.25, &list, &[])] };
+        let mut model =
+            Model { detectors: 4096, observables: 128, mechanisms: vec![mechanism(0.25, &[0], &[]), mechanism(0.25, &list, &[])] };
         assert_eq!(refused(&model), (Code::Index, at(1)), "{entries} detectors");
         // before 4 of the same mechanism, after a refusal of an earlier one
         model.mechanisms[1].probability = 2.0;

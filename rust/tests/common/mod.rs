@@ -69,8 +69,9 @@ impl Numbers {
     /// A row of this width, one bit in four lit.
     pub fn row(&mut self, width: usize) -> Vec<u64> {
         let mut row: Vec<u64> = (0..width.div_ceil(64)).map(|_| self.next() & self.next()).collect();
-        if width % 64 != 0 {
-            *row.last_mut().unwrap() &= (1 << (width % 64)) - 1;
+        let tail = width % 64;
+        if tail > 0 {
+            *row.last_mut().unwrap() &= (1 << tail) - 1;
         }
         row
     }

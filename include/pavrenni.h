@@ -1,0 +1,303 @@
+/* Pavrenni: a verified union-find decoder for quantum error correction. The calls of the static library libserver.a.
+ *
+ * A slice crosses as a pointer and its length in entries. A call asks one thing of its caller: that each pointer is
+ * aligned, is not null (of a slice of length 0 too), is valid for its length, and that what it writes overlaps nothing
+ * else that is lent. Counts, lengths, tables and lists are checked, and what is wrong is refused with a code.
+ *
+ * An answer is a struct by value. Its code is 0, or a row of document 01's marking sheet; `first` and `second` are the
+ * values that the row names, in its order, and 0 where it names none:
+ *     4, 5 (a mechanism, or an edge of a lent graph), 6, 7 (a mechanism), 9 (a shot): `first`
+ *     11: `first` is the shot, `second` the detector
+ *
+ * Rows: bit b of a row is bit b mod 64 of word b div 64. A row of width n has words(n) words, n / 64 rounded up; rows of
+ * several shots follow each other. D is the number of detectors, O of observables, M of mechanisms, E of edges.
+ *
+ * Limits: D to 4,096, O to 128, M and E to 16,384, shots to 16,777,216 (1 if over); 16 entries a list and 16 components a
+ * mechanism (5 if over).
+ *
+ * Slices of outputs, lists and scratch are refused with 2 if shorter than what is said here; a longer one is taken, and
+ * what is past the words written is untouched. Scratch: ask the `_lengths_for` functions. What scratch holds before a
+ * call reaches no answer, and what it holds after one is left open.
+ */
+#ifndef PAVRENNI_H
+#define PAVRENNI_H
+
+#include <stdbool.h>
+#include <stddef.h>
+#include <stdint.h>
+
+#ifdef __cplusplus
+extern "C" {
+#endif
+
+/* The second end of a boundary edge. */
+#define PAVRENNI_BOUNDARY UINT32_C(4294967295)
+
+/* Codes. "Zero" is of the tables that decomposition and compiling were to fill, whole; the other calls leave their rows
+ * and lists untouched by 1, 2, 4, 5, 8, 9, 10 and 13. */
+enum pavrenni_code {
+    PAVRENNI_DONE = 0,
+    PAVRENNI_LIMIT = 1,         /* a count over its limit, or the decomposed model finds no place; zero */
+    PAVRENNI_SHORT = 2,         /* a table, list, output or scratch slice too short; zero */
+    PAVRENNI_FRAME = 3,         /* frames alone: none of these calls */
+    PAVRENNI_PROBABILITY = 4,   /* a mechanism's probability, or the weight of an edge; zero */
+    PAVRENNI_INDEX = 5,         /* a mechanism's list, or an edge; zero */
+    PAVRENNI_NO_COVER = 6,      /* a mechanism has no cover; zero */
+    PAVRENNI_NOT_GRAPHLIKE = 7, /* a mechanism of over two detectors; zero */
+    PAVRENNI_LENGTH = 8,        /* the length of the row data */
+    PAVRENNI_PADDING = 9,       /* a bit past the width is set */
+    PAVRENNI_WIDTH = 10,        /* the width differs from D */
+    PAVRENNI_STUCK = 11,        /* no set of edges explains a shot */
+    PAVRENNI_SHAPE = 12,        /* the shape of the true observables; the rows are done */
+    PAVRENNI_EDGE = 13          /* an edge of a list is unknown or repeated */
+};
+
+/* ---- answers */
+
+/* of pavrenni_decompose: the counts of the model that is left, 0 after a refusal */
+struct pavrenni_model {
+    uint32_t code;
+    size_t first;
+    size_t second;
+    size_t mechanisms;
+    size_t components;
+    size_t entries;
+};
+
+/* of pavrenni_compile: the number of edges, 0 after a refusal */
+struct pavrenni_graph {
+    uint32_t code;
+    size_t first;
+    size_t second;
+    size_t edges;
+};
+
+/* of pavrenni_decode_shot: the rounds finished, after Stuck too, and the length of the list, 0 after a refusal */
+struct pavrenni_shot {
+    uint32_t code;
+    size_t first;
+    size_t second;
+    uint32_t rounds;
+    size_t length;
+};
+
+/* of pavrenni_decode_batch */
+struct pavrenni_batch {
+    uint32_t code;
+    size_t first;
+    size_t second;
+};
+
+/* of pavrenni_mark: where the code is 0, `passed` is 1, or 0 and `detector` the lowest wrong one */
+struct pavrenni_mark {
+    uint32_t code;
+    size_t first;
+    size_t second;
+    uint32_t passed;
+    uint32_t detector;
+};
+
+/* of pavrenni_rate */
+struct pavrenni_rate {
+    uint32_t code;
+    size_t first;
+    size_t second;
+    double rate;
+};
+
+/* ---- scratch: the least number of entries of each slice; all 0 for counts over the limits, which are refused anyway */
+
+struct pavrenni_lengths {
+    size_t adj_offsets;
+    size_t adj_edge;
+    size_t adj_far;
+    size_t defects;
+    size_t seen;
+    size_t active;
+    size_t front;
+    size_t touched;
+    size_t cnt;
+    size_t fresh;
+    size_t order_edge;
+    size_t order_parent;
+    size_t lit;
+    size_t growth;
+    size_t sat;
+    size_t known;
+    size_t parent;
+    size_t odd;
+    size_t boundary_edge;
+    size_t hot;
+    size_t free;
+    size_t live;
+    size_t bits;
+};
+
+struct pavrenni_decompose_lengths {
+    size_t starts;
+    size_t before;
+    size_t last_of;
+    size_t first_of;
+    size_t next_of;
+    size_t numbers;
+    size_t masks;
+    size_t words0;
+    size_t words1;
+    size_t earlier;
+};
+
+struct pavrenni_compile_lengths {
+    size_t edge_p;
+    size_t first;
+    size_t next;
+};
+
+struct pavrenni_mark_lengths {
+    size_t marks;
+    size_t wrong;
+};
+
+struct pavrenni_lengths pavrenni_lengths_for(size_t detectors, size_t edges);
+struct pavrenni_decompose_lengths pavrenni_decompose_lengths_for(size_t detectors, size_t mechanisms);
+struct pavrenni_compile_lengths pavrenni_compile_lengths_for(size_t detectors, size_t mechanisms);
+struct pavrenni_mark_lengths pavrenni_mark_lengths_for(size_t detectors, size_t edges);
+
+/* ---- parameters that several calls have */
+
+/* A model in tables. The first four have an entry a mechanism, the next two an entry a component, those of mechanism 0
+ * first. The last has for each mechanism its detectors, its observables, then for each of its components the
+ * component's detectors and observables. */
+#define PAVRENNI_MODEL                                                                                                 \
+    size_t detectors, size_t observables, size_t mechanisms,                                                           \
+    const double *probability, size_t probability_len,                                                                 \
+    const uint8_t *detector_counts, size_t detector_counts_len,                                                        \
+    const uint8_t *observable_counts, size_t observable_counts_len,                                                    \
+    const uint8_t *component_counts, size_t component_counts_len,                                                      \
+    const uint8_t *component_detectors, size_t component_detectors_len,                                                \
+    const uint8_t *component_observables, size_t component_observables_len,                                            \
+    const uint32_t *entries, size_t entries_len
+
+/* A lent graph: for each edge its first end, its second end (greater, or the boundary), its weight (from 0 to 1,024, or
+ * infinity), and its row of O observables. */
+#define PAVRENNI_GRAPH                                                                                                 \
+    size_t detectors, size_t observables, size_t edges,                                                                \
+    const uint32_t *edge_u, size_t edge_u_len,                                                                         \
+    const uint32_t *edge_v, size_t edge_v_len,                                                                         \
+    const double *edge_weight, size_t edge_weight_len,                                                                 \
+    const uint64_t *edge_obs, size_t edge_obs_len
+
+/* The decoder's scratch: struct pavrenni_lengths has their lengths in the same order. An entry of a bool slice is 0 or 1. */
+#define PAVRENNI_SCRATCH                                                                                               \
+    uint32_t *adj_offsets, size_t adj_offsets_len,                                                                     \
+    uint32_t *adj_edge, size_t adj_edge_len,                                                                           \
+    uint32_t *adj_far, size_t adj_far_len,                                                                             \
+    uint32_t *defects, size_t defects_len,                                                                             \
+    uint32_t *seen, size_t seen_len,                                                                                   \
+    uint32_t *active, size_t active_len,                                                                               \
+    uint32_t *front, size_t front_len,                                                                                 \
+    uint32_t *touched, size_t touched_len,                                                                             \
+    uint8_t *cnt, size_t cnt_len,                                                                                      \
+    uint32_t *fresh, size_t fresh_len,                                                                                 \
+    uint32_t *order_edge, size_t order_edge_len,                                                                       \
+    uint32_t *order_parent, size_t order_parent_len,                                                                   \
+    bool *lit, size_t lit_len,                                                                                         \
+    double *growth, size_t growth_len,                                                                                 \
+    bool *sat, size_t sat_len,                                                                                         \
+    bool *known, size_t known_len,                                                                                     \
+    uint32_t *parent, size_t parent_len,                                                                               \
+    bool *odd, size_t odd_len,                                                                                         \
+    uint32_t *boundary_edge, size_t boundary_edge_len,                                                                 \
+    bool *hot, size_t hot_len,                                                                                         \
+    bool *free, size_t free_len,                                                                                       \
+    bool *live, size_t live_len,                                                                                       \
+    uint64_t *bits, size_t bits_len
+
+/* ---- calls */
+
+/* The decomposed model, into output tables that are no shorter than the tables given need to be. Each component may
+ * become a mechanism: M and the number of components together are always places enough. Scratch:
+ * pavrenni_decompose_lengths_for(D, M). Refused in this order: 1, 2, then 5 and 4 by mechanism, then 6, or 1 where a
+ * component's new mechanism finds no place. */
+struct pavrenni_model pavrenni_decompose(
+    PAVRENNI_MODEL,
+    double *out_probability, size_t out_probability_len,
+    uint8_t *out_detector_counts, size_t out_detector_counts_len,
+    uint8_t *out_observable_counts, size_t out_observable_counts_len,
+    uint8_t *out_component_counts, size_t out_component_counts_len,
+    uint8_t *out_component_detectors, size_t out_component_detectors_len,
+    uint8_t *out_component_observables, size_t out_component_observables_len,
+    uint32_t *out_entries, size_t out_entries_len,
+    uint32_t *starts, size_t starts_len,
+    uint32_t *before, size_t before_len,
+    uint32_t *last_of, size_t last_of_len,
+    uint32_t *first_of, size_t first_of_len,
+    uint32_t *next_of, size_t next_of_len,
+    uint32_t *numbers, size_t numbers_len,
+    uint16_t *masks, size_t masks_len,
+    uint64_t *words0, size_t words0_len,
+    uint64_t *words1, size_t words1_len,
+    uint32_t *earlier, size_t earlier_len);
+
+/* The edge graph of a model: edge_u, edge_v and edge_weight take M entries each, edge_obs M * words(O). Scratch:
+ * pavrenni_compile_lengths_for(D, M). Refused in this order: 1, 2, then 5, 4 and 7 by mechanism. */
+struct pavrenni_graph pavrenni_compile(
+    PAVRENNI_MODEL,
+    uint32_t *edge_u, size_t edge_u_len,
+    uint32_t *edge_v, size_t edge_v_len,
+    double *edge_weight, size_t edge_weight_len,
+    uint64_t *edge_obs, size_t edge_obs_len,
+    double *edge_p, size_t edge_p_len,
+    uint32_t *first, size_t first_len,
+    uint32_t *next, size_t next_len);
+
+/* One shot of width D: XORs the observables of its correction into the row (words(O)) and writes the list (D entries), of
+ * which the answer has the length. Scratch: pavrenni_lengths_for(D, E). Refused in this order: 1, 2, then 5 and 4 by
+ * edge, 8, 9, 10, 11; then row and list are untouched. */
+struct pavrenni_shot pavrenni_decode_shot(
+    PAVRENNI_GRAPH,
+    const uint64_t *shot, size_t shot_len,
+    size_t width,
+    uint64_t *row, size_t row_len,
+    uint32_t *list, size_t list_len,
+    PAVRENNI_SCRATCH);
+
+/* Shots of width D: a row of words(O) a shot into `out`. The list (D entries) is scratch here. Refused as one shot is; by
+ * 11 the earlier rows are done, this row is zero, later ones are untouched, by the others all are. */
+struct pavrenni_batch pavrenni_decode_batch(
+    PAVRENNI_GRAPH,
+    const uint64_t *rows, size_t rows_len,
+    size_t shots, size_t width,
+    uint64_t *out, size_t out_len,
+    uint32_t *list, size_t list_len,
+    PAVRENNI_SCRATCH);
+
+/* Marks a list, of any length, of edge numbers against a shot of width D. It passes if its edges flip exactly the lit
+ * detectors; then the XOR of their observables is written to the row (words(O)), else the row is untouched. Scratch:
+ * pavrenni_mark_lengths_for(D, E). Refused in this order: 1, 2, then 5 and 4 by edge, 8, 9, 10, 13. */
+struct pavrenni_mark pavrenni_mark(
+    PAVRENNI_GRAPH,
+    const uint64_t *shot, size_t shot_len,
+    size_t width,
+    const uint32_t *list, size_t list_len,
+    uint64_t *row, size_t row_len,
+    uint64_t *marks, size_t marks_len,
+    uint64_t *wrong, size_t wrong_len);
+
+/* The logical error rate: shots of which any predicted observable differs from the true ones, divided by shots; 0 where
+ * there are no shots or no observables. The predicted rows are left in `out`, as by a batch. Refused in this order: 1, 2,
+ * then 5 and 4 by edge, 8 and 9 of the shots, 8 and 9 of the true observables, 10, 11, and 12 with the rows done. */
+struct pavrenni_rate pavrenni_rate(
+    PAVRENNI_GRAPH,
+    const uint64_t *rows, size_t rows_len,
+    size_t shots, size_t width,
+    const uint64_t *truth, size_t truth_len,
+    size_t true_shots, size_t true_width,
+    uint64_t *out, size_t out_len,
+    uint32_t *list, size_t list_len,
+    PAVRENNI_SCRATCH);
+
+#ifdef __cplusplus
+}
+#endif
+
+#endif

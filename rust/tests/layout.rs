@@ -1,0 +1,131 @@
+//! `sys` and `include/pavrenni.h` declare the same structs and the same calls.
+
+use pavrenni::sys;
+use std::fmt::Write;
+use std::mem::{offset_of, size_of};
+
+/// What C says of its structs: tests/c/run.sh holds the header to the same file.
+const LAYOUT: &str = include_str!("../../tests/c/layout.txt");
+const HEADER: &str = include_str!("../../include/pavrenni.h");
+const DECLARED: &str = include_str!("../src/sys.rs");
+
+fn size_of_field<T, F>(_: fn(&T) -> &F) -> usize {
+    size_of::<F>()
+}
+
+macro_rules! layout {
+    ($text:ident: $name:literal $kind:ident { $($field:ident),* $(,)? }) => {
+        writeln!($text, "{} size {}", $name, size_of::<sys::$kind>()).unwrap();
+        $(
+            let (at, size) = (offset_of!(sys::$kind, $field), size_of_field(|x: &sys::$kind| &x.$field));
+            writeln!($text, "{}.{} at {at} size {size}", $name, stringify!($field)).unwrap();
+        )*
+    };
+}
+
+#[test]
+fn structs() {
+    let mut text = String::new();
+    layout!(text: "pavrenni_model" Model { code, first, second, mechanisms, components, entries });
+    layout!(text: "pavrenni_graph" Graph { code, first, second, edges });
+    layout!(text: "pavrenni_shot" Shot { code, first, second, rounds, length });
+    layout!(text: "pavrenni_batch" Batch { code, first, second });
+    layout!(text: "pavrenni_mark" Mark { code, first, second, passed, detector });
+    layout!(text: "pavrenni_rate" Rate { code, first, second, rate });
+    layout!(text: "pavrenni_lengths" Lengths {
+        adj_offsets, adj_edge, adj_far, defects, seen, active, front, touched, cnt, fresh, order_edge, order_parent, lit, growth, sat,
+        known, parent, odd, boundary_edge, hot, free, live, bits,
+    });
+    layout!(text: "pavrenni_decompose_lengths" DecomposeLengths {
+        starts, before, last_of, first_of, next_of, numbers, masks, words0, words1, earlier,
+    });
+    layout!(text: "pavrenni_compile_lengths" CompileLengths { edge_p, first, next });
+    layout!(text: "pavrenni_mark_lengths" MarkLengths { marks, wrong });
+    assert_eq!(text, LAYOUT);
+}
+
+/// A name and a type.
+type Parameter = (String, String);
+
+/// The text between two marks, the first time that they stand.
+fn between<'a>(text: &'a str, from: &str, to: &str) -> &'a str {
+    let rest = &text[text.find(from).unwrap_or_else(|| panic!("no {from:?}")) + from.len()..];
+    &rest[..rest.find(to).unwrap_or_else(|| panic!("no {to:?} after {from:?}"))]
+}
+
+/// The parameters in a text; those that are macros are replaced by what `group` says of them.
+fn parameters(text: &str, one: fn(&str) -> Parameter, group: &dyn Fn(&str) -> Option<Vec<Parameter>>) -> Vec<Parameter> {
+    let parts = text.split(',').map(str::trim).filter(|part| !part.is_empty());
+    parts.flat_map(|part| group(part).unwrap_or_else(|| vec![one(part)])).collect()
+}
+
+/// `const double *edge_p` as `edge_p`, `*const f64`.
+fn parameter_in_c(text: &str) -> Parameter {
+    let (kind, name) = text.split_at(text.rfind([' ', '*']).unwrap() + 1);
+    let plain = match kind.replace("const ", "").trim_end_matches('*').trim() {
+        "size_t" => "usize",
+        "double" => "f64",
+        "uint8_t" => "u8",
+        "uint16_t" => "u16",
+        "uint32_t" => "u32",
+        "uint64_t" => "u64",
+        "bool" => "bool",
+        other => panic!("{other} is not a type of the header"),
+    };
+    let pointer = match (kind.contains('*'), kind.contains("const ")) {
+        (true, true) => "*const ",
+        (true, false) => "*mut ",
+        _ => "",
+    };
+    (name.to_string(), format!("{pointer}{plain}"))
+}
+
+fn parameter_in_rust(text: &str) -> Parameter {
+    let (name, kind) = text.split_once(": ").unwrap();
+    (name.to_string(), kind.to_string())
+}
+
+/// The parameters that the header gives a call.
+fn in_header(call: &str) -> Vec<Parameter> {
+    let header = HEADER.replace("\\\n", "");
+    let group = |part: &str| {
+        let name = part.strip_prefix("PAVRENNI_")?;
+        let listed = between(&header, &format!("#define PAVRENNI_{name} "), "\n");
+        Some(parameters(listed, parameter_in_c, &|_| None))
+    };
+    parameters(between(&header, &format!(" {call}("), ");"), parameter_in_c, &group)
+}
+
+/// The parameters that `sys` gives a call: those of its macros, then its own, then the scratch slices if it decodes.
+fn in_sys(call: &str) -> Vec<Parameter> {
+    let read = |text: &str| parameters(text, parameter_in_rust, &|_| None);
+    if let Some(at) = DECLARED.find(&format!("pub fn {call}(")) {
+        return read(between(&DECLARED[at..], "(", ")"));
+    }
+    let own = read(between(DECLARED, &format!("!({call}("), ") ->"));
+    let shared = |name: &str| read(between(between(DECLARED, &format!("macro_rules! {name} {{"), "-> $answer;"), "pub fn $name(", "$("));
+    let before = |macro_name: &str| DECLARED.contains(&format!("{macro_name}!({call}("));
+    let first = if before("on_model") { shared("on_model") } else { shared("on_graph") };
+    let last = if before("decoding") { read(between(DECLARED, "$($own: $kind,)*", ") ->")) } else { vec![] };
+    [first, own, last].concat()
+}
+
+#[test]
+fn calls() {
+    let calls = [
+        ("pavrenni_lengths_for", 2),
+        ("pavrenni_decompose_lengths_for", 2),
+        ("pavrenni_compile_lengths_for", 2),
+        ("pavrenni_mark_lengths_for", 2),
+        ("pavrenni_decompose", 3 + 2 * 7 + 2 * 7 + 2 * 10),
+        ("pavrenni_compile", 3 + 2 * 7 + 2 * 4 + 2 * 3),
+        ("pavrenni_decode_shot", 3 + 2 * 4 + 7 + 2 * 23),
+        ("pavrenni_decode_batch", 3 + 2 * 4 + 8 + 2 * 23),
+        ("pavrenni_mark", 3 + 2 * 4 + 7 + 2 * 2),
+        ("pavrenni_rate", 3 + 2 * 4 + 12 + 2 * 23),
+    ];
+    for (call, count) in calls {
+        assert_eq!(in_sys(call), in_header(call), "{call}");
+        assert_eq!(in_header(call).len(), count, "{call}");
+    }
+}

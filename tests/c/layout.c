@@ -1,0 +1,93 @@
+/* Prints the size of each struct of pavrenni.h, and place and size of each of its fields. tests/c/layout.txt has what it
+ * must print, and the Rust client is held to the same file. */
+#include "pavrenni.h"
+
+#include <stdio.h>
+
+#define STRUCT(name) printf(#name " size %zu\n", sizeof(struct name))
+#define FIELD(name, field) \
+    printf(#name "." #field " at %zu size %zu\n", offsetof(struct name, field), sizeof(((struct name *)0)->field))
+
+/* what every answer begins with */
+#define ANSWER(name) \
+    STRUCT(name);    \
+    FIELD(name, code); \
+    FIELD(name, first); \
+    FIELD(name, second)
+
+static void answers(void)
+{
+    ANSWER(pavrenni_model);
+    FIELD(pavrenni_model, mechanisms);
+    FIELD(pavrenni_model, components);
+    FIELD(pavrenni_model, entries);
+    ANSWER(pavrenni_graph);
+    FIELD(pavrenni_graph, edges);
+    ANSWER(pavrenni_shot);
+    FIELD(pavrenni_shot, rounds);
+    FIELD(pavrenni_shot, length);
+    ANSWER(pavrenni_batch);
+    ANSWER(pavrenni_mark);
+    FIELD(pavrenni_mark, passed);
+    FIELD(pavrenni_mark, detector);
+    ANSWER(pavrenni_rate);
+    FIELD(pavrenni_rate, rate);
+}
+
+static void decoder_lengths(void)
+{
+    STRUCT(pavrenni_lengths);
+    FIELD(pavrenni_lengths, adj_offsets);
+    FIELD(pavrenni_lengths, adj_edge);
+    FIELD(pavrenni_lengths, adj_far);
+    FIELD(pavrenni_lengths, defects);
+    FIELD(pavrenni_lengths, seen);
+    FIELD(pavrenni_lengths, active);
+    FIELD(pavrenni_lengths, front);
+    FIELD(pavrenni_lengths, touched);
+    FIELD(pavrenni_lengths, cnt);
+    FIELD(pavrenni_lengths, fresh);
+    FIELD(pavrenni_lengths, order_edge);
+    FIELD(pavrenni_lengths, order_parent);
+    FIELD(pavrenni_lengths, lit);
+    FIELD(pavrenni_lengths, growth);
+    FIELD(pavrenni_lengths, sat);
+    FIELD(pavrenni_lengths, known);
+    FIELD(pavrenni_lengths, parent);
+    FIELD(pavrenni_lengths, odd);
+    FIELD(pavrenni_lengths, boundary_edge);
+    FIELD(pavrenni_lengths, hot);
+    FIELD(pavrenni_lengths, free);
+    FIELD(pavrenni_lengths, live);
+    FIELD(pavrenni_lengths, bits);
+}
+
+static void other_lengths(void)
+{
+    STRUCT(pavrenni_decompose_lengths);
+    FIELD(pavrenni_decompose_lengths, starts);
+    FIELD(pavrenni_decompose_lengths, before);
+    FIELD(pavrenni_decompose_lengths, last_of);
+    FIELD(pavrenni_decompose_lengths, first_of);
+    FIELD(pavrenni_decompose_lengths, next_of);
+    FIELD(pavrenni_decompose_lengths, numbers);
+    FIELD(pavrenni_decompose_lengths, masks);
+    FIELD(pavrenni_decompose_lengths, words0);
+    FIELD(pavrenni_decompose_lengths, words1);
+    FIELD(pavrenni_decompose_lengths, earlier);
+    STRUCT(pavrenni_compile_lengths);
+    FIELD(pavrenni_compile_lengths, edge_p);
+    FIELD(pavrenni_compile_lengths, first);
+    FIELD(pavrenni_compile_lengths, next);
+    STRUCT(pavrenni_mark_lengths);
+    FIELD(pavrenni_mark_lengths, marks);
+    FIELD(pavrenni_mark_lengths, wrong);
+}
+
+int main(void)
+{
+    answers();
+    decoder_lengths();
+    other_lengths();
+    return 0;
+}

@@ -1,0 +1,313 @@
+/* Document 01's example through every call of the library, and refusals of each. Prints what is not as it must be. */
+#include "pavrenni.h"
+
+#include <stdio.h>
+#include <stdlib.h>
+#include <string.h>
+
+static int failures = 0;
+
+#define CHECK(holds) \
+    do { \
+        if (!(holds)) { \
+            fprintf(stderr, "%s:%d: not so: %s\n", __FILE__, __LINE__, #holds); \
+            failures++; \
+        } \
+    } while (0)
+
+#define UNTOUCHED UINT64_C(0x5a5a5a5a5a5a5a5a)
+
+/* ---- scratch, allocated by the lengths that the library tells */
+
+#define DECODER_SLICES(SLICE) \
+    SLICE(adj_offsets, uint32_t) SLICE(adj_edge, uint32_t) SLICE(adj_far, uint32_t) SLICE(defects, uint32_t) \
+    SLICE(seen, uint32_t) SLICE(active, uint32_t) SLICE(front, uint32_t) SLICE(touched, uint32_t) SLICE(cnt, uint8_t) \
+    SLICE(fresh, uint32_t) SLICE(order_edge, uint32_t) SLICE(order_parent, uint32_t) SLICE(lit, bool) \
+    SLICE(growth, double) SLICE(sat, bool) SLICE(known, bool) SLICE(parent, uint32_t) SLICE(odd, bool) \
+    SLICE(boundary_edge, uint32_t) SLICE(hot, bool) SLICE(free, bool) SLICE(live, bool) SLICE(bits, uint64_t)
+
+#define DECOMPOSE_SLICES(SLICE) \
+    SLICE(starts, uint32_t) SLICE(before, uint32_t) SLICE(last_of, uint32_t) SLICE(first_of, uint32_t) \
+    SLICE(next_of, uint32_t) SLICE(numbers, uint32_t) SLICE(masks, uint16_t) SLICE(words0, uint64_t) \
+    SLICE(words1, uint64_t) SLICE(earlier, uint32_t)
+
+#define COMPILE_SLICES(SLICE) SLICE(edge_p, double) SLICE(first, uint32_t) SLICE(next, uint32_t)
+
+#define MARK_SLICES(SLICE) SLICE(marks, uint64_t) SLICE(wrong, uint64_t)
+
+#define MEMBER(name, type) type *name;
+#define TAKE(name, type) s.name = memory(s.lengths.name * sizeof(type));
+#define GIVE_BACK(name, type) free(s.name);
+/* pointer and length, as the last arguments of a call */
+#define LENT(name, type) , s.name, s.lengths.name
+
+struct decoder_scratch { DECODER_SLICES(MEMBER) struct pavrenni_lengths lengths; };
+struct decompose_scratch { DECOMPOSE_SLICES(MEMBER) struct pavrenni_decompose_lengths lengths; };
+struct compile_scratch { COMPILE_SLICES(MEMBER) struct pavrenni_compile_lengths lengths; };
+struct mark_scratch { MARK_SLICES(MEMBER) struct pavrenni_mark_lengths lengths; };
+
+/* never null; every byte 1, which is stale in each table and a bool in each bool slice */
+static void *memory(size_t bytes)
+{
+    void *taken = malloc(bytes + 1);
+    if (taken == NULL) {
+        abort();
+    }
+    return memset(taken, 1, bytes + 1);
+}
+
+/* ---- a model, a graph and the calls on them */
+
+#define PLACES 4
+
+struct model {
+    size_t detectors, observables, mechanisms, components, entry_count;
+    double probability[PLACES];
+    uint8_t detector_counts[PLACES], observable_counts[PLACES], component_counts[PLACES];
+    uint8_t component_detectors[PLACES], component_observables[PLACES];
+    uint32_t entries[4 * PLACES];
+};
+
+struct graph {
+    size_t detectors, observables, edges;
+    uint32_t edge_u[PLACES], edge_v[PLACES];
+    double edge_weight[PLACES];
+    uint64_t edge_obs[PLACES];
+};
+
+#define MODEL(m) \
+    (m)->detectors, (m)->observables, (m)->mechanisms, (m)->probability, (m)->mechanisms, (m)->detector_counts, \
+    (m)->mechanisms, (m)->observable_counts, (m)->mechanisms, (m)->component_counts, (m)->mechanisms, \
+    (m)->component_detectors, (m)->components, (m)->component_observables, (m)->components, (m)->entries, (m)->entry_count
+
+#define GRAPH(g) \
+    (g)->detectors, (g)->observables, (g)->edges, (g)->edge_u, (g)->edges, (g)->edge_v, (g)->edges, (g)->edge_weight, \
+    (g)->edges, (g)->edge_obs, (g)->edges
+
+static struct pavrenni_model decompose(const struct model *model, struct model *out)
+{
+    struct decompose_scratch s;
+    s.lengths = pavrenni_decompose_lengths_for(model->detectors, model->mechanisms);
+    DECOMPOSE_SLICES(TAKE)
+    memset(out, 1, sizeof *out);
+    struct pavrenni_model answer = pavrenni_decompose(
+        MODEL(model), out->probability, PLACES, out->detector_counts, PLACES, out->observable_counts, PLACES,
+        out->component_counts, PLACES, out->component_detectors, PLACES, out->component_observables, PLACES,
+        out->entries, 4 * PLACES DECOMPOSE_SLICES(LENT));
+    DECOMPOSE_SLICES(GIVE_BACK)
+    out->detectors = model->detectors;
+    out->observables = model->observables;
+    out->mechanisms = answer.mechanisms;
+    out->components = answer.components;
+    out->entry_count = answer.entries;
+    return answer;
+}
+
+static struct pavrenni_graph compile(const struct model *model, struct graph *out)
+{
+    struct compile_scratch s;
+    s.lengths = pavrenni_compile_lengths_for(model->detectors, model->mechanisms);
+    COMPILE_SLICES(TAKE)
+    memset(out, 1, sizeof *out);
+    struct pavrenni_graph answer = pavrenni_compile(
+        MODEL(model), out->edge_u, PLACES, out->edge_v, PLACES, out->edge_weight, PLACES, out->edge_obs,
+        PLACES COMPILE_SLICES(LENT));
+    COMPILE_SLICES(GIVE_BACK)
+    out->detectors = model->detectors;
+    out->observables = model->observables;
+    out->edges = answer.edges;
+    return answer;
+}
+
+static struct pavrenni_shot decode_shot(const struct graph *graph, uint64_t shot, size_t width, uint64_t *row, uint32_t *list)
+{
+    struct decoder_scratch s;
+    s.lengths = pavrenni_lengths_for(graph->detectors, graph->edges);
+    DECODER_SLICES(TAKE)
+    struct pavrenni_shot answer =
+        pavrenni_decode_shot(GRAPH(graph), &shot, 1, width, row, 1, list, 2 DECODER_SLICES(LENT));
+    DECODER_SLICES(GIVE_BACK)
+    return answer;
+}
+
+static struct pavrenni_batch decode_batch(const struct graph *graph, const uint64_t *rows, size_t shots, uint64_t *out)
+{
+    struct decoder_scratch s;
+    uint32_t list[2];
+    s.lengths = pavrenni_lengths_for(graph->detectors, graph->edges);
+    DECODER_SLICES(TAKE)
+    struct pavrenni_batch answer =
+        pavrenni_decode_batch(GRAPH(graph), rows, 4, shots, 2, out, 4, list, 2 DECODER_SLICES(LENT));
+    DECODER_SLICES(GIVE_BACK)
+    return answer;
+}
+
+static struct pavrenni_mark mark(const struct graph *graph, uint64_t shot, const uint32_t *list, size_t length, uint64_t *row)
+{
+    struct mark_scratch s;
+    s.lengths = pavrenni_mark_lengths_for(graph->detectors, graph->edges);
+    MARK_SLICES(TAKE)
+    struct pavrenni_mark answer = pavrenni_mark(GRAPH(graph), &shot, 1, 2, list, length, row, 1 MARK_SLICES(LENT));
+    MARK_SLICES(GIVE_BACK)
+    return answer;
+}
+
+static struct pavrenni_rate rate(
+    const struct graph *graph, const uint64_t *rows, const uint64_t *truth, size_t true_width, uint64_t *out)
+{
+    struct decoder_scratch s;
+    uint32_t list[2];
+    s.lengths = pavrenni_lengths_for(graph->detectors, graph->edges);
+    DECODER_SLICES(TAKE)
+    struct pavrenni_rate answer =
+        pavrenni_rate(GRAPH(graph), rows, 4, 4, 2, truth, 4, 4, true_width, out, 4, list, 2 DECODER_SLICES(LENT));
+    DECODER_SLICES(GIVE_BACK)
+    return answer;
+}
+
+/* ---- tests */
+
+/* document 01's example: 0.25 flips detector 0 and observable 0, 0.25 flips detectors 0 and 1 */
+static const struct model example = {
+    .detectors = 2, .observables = 1, .mechanisms = 2, .entry_count = 4,
+    .probability = {0.25, 0.25}, .detector_counts = {1, 2}, .observable_counts = {1, 0}, .entries = {0, 0, 0, 1}};
+
+static bool is_zero(const void *at, size_t bytes)
+{
+    const unsigned char *byte = at;
+    for (size_t i = 0; i < bytes; i++) {
+        if (byte[i] != 0) {
+            return false;
+        }
+    }
+    return true;
+}
+
+static void models(void)
+{
+    struct model out;
+    struct pavrenni_model answer = decompose(&example, &out);
+    CHECK(answer.code == PAVRENNI_DONE && answer.mechanisms == 2 && answer.components == 0 && answer.entries == 4);
+    CHECK(memcmp(out.probability, example.probability, 2 * sizeof(double)) == 0);
+    CHECK(memcmp(out.entries, example.entries, 4 * sizeof(uint32_t)) == 0);
+
+    struct model certain = example;
+    certain.probability[1] = 1.0;
+    answer = decompose(&certain, &out);
+    CHECK(answer.code == PAVRENNI_PROBABILITY && answer.first == 1 && answer.second == 0 && answer.mechanisms == 0);
+    CHECK(is_zero(out.probability, sizeof out.probability) && is_zero(out.entries, sizeof out.entries));
+    CHECK(is_zero(out.detector_counts, sizeof out.detector_counts) && is_zero(out.component_counts, sizeof out.component_counts));
+
+    /* a table that is shorter than the counts say */
+    struct model shorter = example;
+    shorter.entry_count = 3;
+    CHECK(decompose(&shorter, &out).code == PAVRENNI_SHORT);
+}
+
+static void graphs(struct graph *graph)
+{
+    struct pavrenni_graph answer = compile(&example, graph);
+    uint64_t weight;
+    CHECK(answer.code == PAVRENNI_DONE && answer.edges == 2);
+    CHECK(graph->edge_u[0] == 0 && graph->edge_v[0] == PAVRENNI_BOUNDARY && graph->edge_obs[0] == 1);
+    CHECK(graph->edge_u[1] == 0 && graph->edge_v[1] == 1 && graph->edge_obs[1] == 0);
+    memcpy(&weight, &graph->edge_weight[0], sizeof weight);
+    CHECK(weight == UINT64_C(0x3ff193ea7aad030a));
+
+    struct graph out;
+    struct model triple = example;
+    triple.detectors = 3;
+    triple.detector_counts[1] = 3;
+    triple.entries[4] = 2;
+    triple.entry_count = 5;
+    answer = compile(&triple, &out);
+    CHECK(answer.code == PAVRENNI_NOT_GRAPHLIKE && answer.first == 1 && answer.edges == 0);
+    CHECK(is_zero(out.edge_u, sizeof out.edge_u) && is_zero(out.edge_obs, sizeof out.edge_obs));
+    triple.detectors = 4097;
+    CHECK(compile(&triple, &out).code == PAVRENNI_LIMIT);
+}
+
+static void shots(const struct graph *graph)
+{
+    uint64_t row = 0;
+    uint32_t list[2] = {7, 7};
+    struct pavrenni_shot answer = decode_shot(graph, 2, 2, &row, list);
+    CHECK(answer.code == PAVRENNI_DONE && answer.rounds == 2 && answer.length == 2);
+    CHECK(row == 1 && list[0] == 1 && list[1] == 0);
+    CHECK(decode_shot(graph, 2, 3, &row, list).code == PAVRENNI_WIDTH);
+    CHECK(decode_shot(graph, 2, SIZE_MAX, &row, list).code == PAVRENNI_LENGTH);
+    CHECK(decode_shot(graph, 4, 2, &row, list).code == PAVRENNI_PADDING);
+    CHECK(row == 1 && list[0] == 1 && list[1] == 0);
+
+    /* the pair edge alone */
+    struct graph pair = {.detectors = 2, .observables = 1, .edges = 1, .edge_v = {1}, .edge_weight = {1.0}};
+    answer = decode_shot(&pair, 2, 2, &row, list);
+    CHECK(answer.code == PAVRENNI_STUCK && answer.first == 0 && answer.second == 0 && answer.rounds == 1);
+    CHECK(row == 1 && list[0] == 1 && list[1] == 0);
+}
+
+static void batches(const struct graph *graph)
+{
+    const uint64_t rows[4] = {0, 1, 2, 3};
+    uint64_t out[4] = {UNTOUCHED, UNTOUCHED, UNTOUCHED, UNTOUCHED};
+    CHECK(decode_batch(graph, rows, 4, out).code == PAVRENNI_DONE);
+    CHECK(out[0] == 0 && out[1] == 1 && out[2] == 1 && out[3] == 0);
+    CHECK(decode_batch(graph, rows, 3, out).code == PAVRENNI_LENGTH);
+    CHECK(decode_batch(graph, rows, 16777217, out).code == PAVRENNI_LIMIT);
+
+    /* a boundary edge alone: the third shot is Stuck at detector 1 */
+    struct graph end = {.detectors = 2, .observables = 1, .edges = 1, .edge_v = {PAVRENNI_BOUNDARY}, .edge_obs = {1}};
+    uint64_t left[4] = {UNTOUCHED, UNTOUCHED, UNTOUCHED, UNTOUCHED};
+    struct pavrenni_batch answer = decode_batch(&end, rows, 4, left);
+    CHECK(answer.code == PAVRENNI_STUCK && answer.first == 2 && answer.second == 1);
+    CHECK(left[0] == 0 && left[1] == 1 && left[2] == 0 && left[3] == UNTOUCHED);
+}
+
+static void marks(const struct graph *graph)
+{
+    const uint32_t list[3] = {0, 1, 2};
+    const uint32_t repeated[2] = {0, 0};
+    uint64_t row = UNTOUCHED;
+    struct pavrenni_mark answer = mark(graph, 2, list, 1, &row);
+    CHECK(answer.code == PAVRENNI_DONE && answer.passed == 0 && answer.detector == 0);
+    CHECK(mark(graph, 2, list, 3, &row).code == PAVRENNI_EDGE);
+    CHECK(mark(graph, 2, repeated, 2, &row).code == PAVRENNI_EDGE);
+    CHECK(row == UNTOUCHED);
+    answer = mark(graph, 2, list, 2, &row);
+    CHECK(answer.code == PAVRENNI_DONE && answer.passed == 1 && row == 1);
+    CHECK(mark(graph, 0, list, 0, &row).passed == 1 && row == 0);
+}
+
+static void rates(const struct graph *graph)
+{
+    const uint64_t rows[4] = {0, 1, 2, 3};
+    const uint64_t truth[4] = {0, 1, 0, 0};
+    uint64_t out[4] = {UNTOUCHED, UNTOUCHED, UNTOUCHED, UNTOUCHED};
+    struct pavrenni_rate answer = rate(graph, rows, truth, 1, out);
+    CHECK(answer.code == PAVRENNI_DONE && answer.rate == 0.25);
+    CHECK(out[0] == 0 && out[1] == 1 && out[2] == 1 && out[3] == 0);
+    memset(out, 1, sizeof out);
+    CHECK(rate(graph, rows, truth, 2, out).code == PAVRENNI_SHAPE);
+    CHECK(out[0] == 0 && out[1] == 1 && out[2] == 1 && out[3] == 0);
+}
+
+static void lengths(void)
+{
+    struct pavrenni_lengths over = pavrenni_lengths_for(4097, 1);
+    struct pavrenni_mark_lengths over_mark = pavrenni_mark_lengths_for(1, 16385);
+    CHECK(is_zero(&over, sizeof over) && is_zero(&over_mark, sizeof over_mark));
+}
+
+int main(void)
+{
+    struct graph graph;
+    models();
+    graphs(&graph);
+    shots(&graph);
+    batches(&graph);
+    marks(&graph);
+    rates(&graph);
+    lengths();
+    printf("%s\n", failures == 0 ? "C: all as it must be" : "C: not as it must be");
+    return failures == 0 ? 0 : 1;
+}
