@@ -1,0 +1,2 @@
+pub mod Marker
+pub mod Decoder

@@ -1,0 +1,1 @@
+// Demand 3 of the shot decoder and the marker.
