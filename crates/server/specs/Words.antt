@@ -3,9 +3,16 @@ use mathlib.Core.Path.{_≡_}
 use Rattle.codes.specs.Codes.{codeOf, firstOf, secondOf}
 use Rattle.graph.specs.declared.Compiled.{Compiled}
 use Rattle.graph.specs.declared.Compiled.the-variants as compiled
+use Rattle.codes.specs.declared.Checked.{Checked}
+use Rattle.codes.specs.declared.Checked.the-variants as checked
+use Rattle.codes.specs.declared.Refusal.the-variants as refusal
+use Rattle.decoder.specs.declared.Answer.{Answer}
+use Rattle.decoder.specs.declared.Answer.the-variants as answer
 use Rattle.marking.specs.declared.Marking.{Marking}
 use Rattle.marking.specs.declared.Marking.the-variants as marking
 use Rattle.server.specs.declared.GraphWords.{GraphWords}
+use Rattle.server.specs.declared.ShotWords.{ShotWords}
+use Rattle.server.specs.declared.BatchWords.{BatchWords}
 use Rattle.server.specs.declared.MarkWords.{MarkWords}
 
 -- what an export promises: its words are those of an answer of which the call's own promise P holds
@@ -26,3 +33,17 @@ abbrev pub wordsOfMark : Marking → MarkWords
 wordsOfMark marking.Pass = record { code = 0; first = 0; second = 0; passed = 1; detector = 0 }
 wordsOfMark (marking.Differs d) = record { code = 0; first = 0; second = 0; passed = 0; detector = d }
 wordsOfMark (marking.Refused r) = record { code = codeOf r; first = firstOf r; second = secondOf r; passed = 0; detector = 0 }
+
+-- ---- one shot
+
+-- 11 names shot 0: a shot by itself is a batch of one
+abbrev pub wordsOfShot : Answer → ShotWords
+wordsOfShot (answer.Decoded n k) = record { code = 0; first = 0; second = 0; rounds = n; length = k }
+wordsOfShot (answer.Stuck n d) = record { code = codeOf (refusal.Stuck 0 d); first = firstOf (refusal.Stuck 0 d); second = secondOf (refusal.Stuck 0 d); rounds = n; length = 0 }
+wordsOfShot (answer.Refused r) = record { code = codeOf r; first = firstOf r; second = secondOf r; rounds = 0; length = 0 }
+
+-- ---- a batch
+
+abbrev pub wordsOfBatch : Checked → BatchWords
+wordsOfBatch checked.Accepted = record { code = 0; first = 0; second = 0 }
+wordsOfBatch (checked.Refused r) = record { code = codeOf r; first = firstOf r; second = secondOf r }

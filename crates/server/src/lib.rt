@@ -1,10 +1,14 @@
 // The C exports, all of them. Each takes numbers and slices, checks what it is handed and answers with a struct by value.
-use codes::Refusal;
+use codes::Checked;
+use decoder::Answer;
 use graph::Compiled;
 use marking::Marking;
 use scratch::Lengths;
 ghost use mathlib.Core.Path.{_≡_};
 ghost use Rattle.calls.specs.Call.{lentOf};
+ghost use lib.ListN.{length};
+ghost use Rattle.scratch.specs.Scratch.{lengthsOf};
+ghost use Rattle.decoder.specs.Answer.{handed, Decodes};
 ghost use Rattle.marker.specs.Answer.{Marks};
 ghost use Rattle.dem.specs.Positions.{tables};
 ghost use Rattle.graph.specs.Tables.{slices};
@@ -12,7 +16,7 @@ ghost use Rattle.graph.specs.Outcome.{outcome, Compiles};
 ghost use Prim.Native.Nat.{_≤_};
 ghost use Rattle.codes.specs.Limits.{maxMechanisms};
 ghost use Rattle.server.specs.Lengths.{within, decodeLengths, decomposeWith, decomposeLengths, compileWith, compileLengths, markWith, markLengths};
-ghost use Rattle.server.specs.Words.{InWords, wordsOfGraph, wordsOfMark};
+ghost use Rattle.server.specs.Words.{InWords, wordsOfGraph, wordsOfMark, wordsOfShot, wordsOfBatch};
 
 // The answer of compiling.
 #[repr(C)]
@@ -279,5 +283,146 @@ pub extern "C" fn pavrenni_mark(
         row,
         marks,
         wrong,
+    ))
+}
+
+// The answer to a shot: the rounds finished and the length of the list. Stuck is code 11 with shot 0 and the detector, and has its rounds too.
+#[repr(C)]
+pub struct ShotWords {
+    pub code: u32,
+    pub first: usize,
+    pub second: usize,
+    pub rounds: u32,
+    pub length: usize,
+}
+
+fn shot_words(a: Answer) -> ShotWords
+    ensures { λ r. ⌜ r ≡ wordsOfShot a ⌝ }
+{
+    match a {
+        Answer::Decoded { rounds, length } => ShotWords {
+            code: 0,
+            first: 0,
+            second: 0,
+            rounds: rounds,
+            length: length,
+        },
+        Answer::Stuck { rounds, detector } => ShotWords {
+            code: 11,
+            first: 0,
+            second: detector as usize,
+            rounds: rounds,
+            length: 0,
+        },
+        Answer::Refused(r) => ShotWords {
+            code: codes::code(r) as u32,
+            first: codes::first_value(r),
+            second: codes::second_value(r) as usize,
+            rounds: 0,
+            length: 0,
+        },
+    }
+}
+
+// The answer to a batch.
+#[repr(C)]
+pub struct BatchWords {
+    pub code: u32,
+    pub first: usize,
+    pub second: usize,
+}
+
+fn batch_words(a: Checked) -> BatchWords
+    ensures { λ r. ⌜ r ≡ wordsOfBatch a ⌝ }
+{
+    match a {
+        Checked::Accepted => BatchWords {
+            code: 0,
+            first: 0,
+            second: 0,
+        },
+        Checked::Refused(r) => BatchWords {
+            code: codes::code(r) as u32,
+            first: codes::first_value(r),
+            second: codes::second_value(r) as usize,
+        },
+    }
+}
+
+// A shot decoded. Long for its parameters, one a line.
+#[no_mangle]
+pub extern "C" fn pavrenni_decode_shot(
+    detectors: usize,
+    observables: usize,
+    edges: usize,
+    edge_u: &[u32],
+    edge_v: &[u32],
+    edge_weight: &[f64],
+    edge_obs: &[u64],
+    shot: &[u64],
+    width: usize,
+    row: &mut [u64],
+    list: &mut [u32],
+    adj_offsets: &mut [u32],
+    adj_edge: &mut [u32],
+    adj_far: &mut [u32],
+    defects: &mut [u32],
+    seen: &mut [u32],
+    active: &mut [u32],
+    front: &mut [u32],
+    touched: &mut [u32],
+    cnt: &mut [u8],
+    fresh: &mut [u32],
+    order_edge: &mut [u32],
+    order_parent: &mut [u32],
+    lit: &mut [bool],
+    growth: &mut [f64],
+    sat: &mut [bool],
+    known: &mut [bool],
+    parent: &mut [u32],
+    odd: &mut [bool],
+    boundary_edge: &mut [u32],
+    hot: &mut [bool],
+    free: &mut [bool],
+    live: &mut [bool],
+    bits: &mut [u64],
+) -> ShotWords
+    ensures { λ r. ⌜ InWords wordsOfShot (λ a. Decodes (handed (lentOf detectors observables edges (now («edge_u» .entry)) (now («edge_v» .entry)) (now («edge_weight» .entry)) (now («edge_obs» .entry))) (now (shot .entry)) width (now (row .entry)) (now (list .entry)) (lengthsOf (length (now («adj_offsets» .entry))) (length (now («adj_edge» .entry))) (length (now («adj_far» .entry))) (length (now (defects .entry))) (length (now (seen .entry))) (length (now (active .entry))) (length (now (front .entry))) (length (now (touched .entry))) (length (now (cnt .entry))) (length (now (fresh .entry))) (length (now («order_edge» .entry))) (length (now («order_parent» .entry))) (length (now (lit .entry))) (length (now (growth .entry))) (length (now (sat .entry))) (length (now (known .entry))) (length (now (parent .entry))) (length (now (odd .entry))) (length (now («boundary_edge» .entry))) (length (now (hot .entry))) (length (now (free .entry))) (length (now (live .entry))) (length (now (bits .entry))))) a (now (list .exit)) (now (row .exit))) r ⌝ }
+{
+    shot_words(decoder::decode_shot(
+        detectors,
+        observables,
+        edges,
+        edge_u,
+        edge_v,
+        edge_weight,
+        edge_obs,
+        shot,
+        width,
+        row,
+        list,
+        adj_offsets,
+        adj_edge,
+        adj_far,
+        defects,
+        seen,
+        active,
+        front,
+        touched,
+        cnt,
+        fresh,
+        order_edge,
+        order_parent,
+        lit,
+        growth,
+        sat,
+        known,
+        parent,
+        odd,
+        boundary_edge,
+        hot,
+        free,
+        live,
+        bits,
     ))
 }
