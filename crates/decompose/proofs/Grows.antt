@@ -22,7 +22,7 @@ use Rattle.suggested.proofs.Turns.{stopped}
 use Rattle.decompose.specs.Begun.{symptomsOf}
 use Rattle.decompose.specs.Laws.{Grows}
 
-entries-append : (a b : List Symptom) → symptomEntries (a ++ b) ≡ symptomEntries a ++ symptomEntries b
+pub entries-append : (a b : List Symptom) → symptomEntries (a ++ b) ≡ symptomEntries a ++ symptomEntries b
 unfolding symptomEntries
 entries-append [] b = refl
 entries-append (s ∷ a) b =

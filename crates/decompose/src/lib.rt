@@ -21,7 +21,7 @@ pub struct Counts {
 }
 
 // Those with 0 to 2 detectors are kept in order, with their components.
-fn copy_kept(
+pub fn copy_kept(
     mechanisms: usize,
     probability: &[f64],
     detector_counts: &[u8],
@@ -100,7 +100,7 @@ fn copy_kept(
 }
 
 // A refusal leaves all output tables zero.
-fn zero_tables(
+pub fn zero_tables(
     probability: &mut [f64],
     detector_counts: &mut [u8],
     observable_counts: &mut [u8],
@@ -121,7 +121,7 @@ fn zero_tables(
 }
 
 // Each larger mechanism, in order.
-fn split_all(
+pub fn split_all(
     mechanisms: usize,
     kept: usize,
     size: Size,
