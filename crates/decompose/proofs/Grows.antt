@@ -77,7 +77,7 @@ grows-raised p k a =
       entries = ap (λ (u : Tables). u .entries) t ∙ sym (append-nil (tablesOf a .entries));
     }
 
-abbrev fresh : Float → Symptom → ErrorMechanism
+abbrev pub fresh : Float → Symptom → ErrorMechanism
 fresh p s = record { probability = plus (fin false 0 (pos 0)) p; symptom = s; components = [] }
 
 grows-new : (p : Float) (s : Symptom) (a : List ErrorMechanism) → Grows a (a ++ (fresh p s ∷ []))
@@ -99,7 +99,7 @@ pub record Step (most : ℕ) (a b : List ErrorMechanism) : Type 0 where
   pub grows : Grows a b
   pub few : length b ≤ length a + most
 
-none-in : {A : Type 0} (r : Refusal) (ms : List ErrorMechanism) → refused r ≡ into ms → A
+pub none-in : {A : Type 0} (r : Refusal) (ms : List ErrorMechanism) → refused r ≡ into ms → A
 none-in r ms e = absurd (let z : _≡_ {A = ℕ} 0 1 = cc in omega arith)
 
 one-component : (room : Places) (p : Float) (s : Symptom) (a : List ErrorMechanism) (o : Option ℕ) (b : List ErrorMechanism) → addComponent room p s a o ≡ into b → Step 1 a b

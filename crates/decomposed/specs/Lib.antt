@@ -1,1 +1,3 @@
+pub mod Call
 pub mod Appended
+pub mod Made

@@ -1,10 +1,39 @@
 // Document 01, "Decomposed model": a model in its tables is checked, decomposed into output tables, or refused.
 ghost use mathlib.Core.Path.{_≡_};
-ghost use mathlib.Core.List.{_++_};
-ghost use Prim.Native.Nat.{_-_, _≤_};
+ghost use mathlib.Core.List.{List, _++_};
+ghost use Prim.Native.Nat.{ℕ, _-_, _≤_};
 ghost use lib.ListN.{length, take, replicate};
-ghost use Rattle.dem.specs.Tables.{symptomEntries, written};
+ghost use Rattle.dem.specs.Tables.{Tables, modelOf, symptomEntries, tablesWritten, written};
+ghost use Rattle.dem.specs.Positions.{tables};
+ghost use Rattle.dem.specs.Decompose.{keptOf, decompose};
+ghost use Rattle.suggested.specs.Held.{placesOf};
+ghost use Rattle.decompose.specs.Begun.{Begun};
 ghost use Rattle.decomposed.specs.Appended.{listsFrom, Appendable};
+ghost use Rattle.decomposed.specs.Made.{Finished, Roomy, Made};
+use codes::Refusal;
+use decompose::Counts;
+use splits::Step;
+use suggested::Size;
+
+// What the call comes to: the mechanisms, components and entries of the new model, or the refusal.
+pub enum Decomposed {
+    Into(Counts),
+    Refused(Refusal),
+}
+
+// The lengths of the scratch slices.
+pub struct Scratch {
+    pub starts: usize,
+    pub before: usize,
+    pub last_of: usize,
+    pub first_of: usize,
+    pub next_of: usize,
+    pub numbers: usize,
+    pub masks: usize,
+    pub words0: usize,
+    pub words1: usize,
+    pub earlier: usize,
+}
 
 // ---- the appended mechanisms
 
@@ -31,5 +60,115 @@ fn append_lists(
         copies::copy_words(&entries[start..stop], out, to);
         to += size;
         k += 1;
+    }
+}
+
+// The appended mechanisms in the columns and entries that splitting leaves alone.
+fn finish(
+    kept: Counts,
+    size: Size,
+    starts: &[u32],
+    detector_counts: &[u8],
+    observable_counts: &[u8],
+    entries: &[u32],
+    component_counts: &mut [u8],
+    out: &mut [u32],
+) -> Decomposed
+    requires { ⌜ Appendable (now starts) (now «detector_counts») (now «observable_counts») (now entries) (kept .mechanisms) (size .mechanisms) (kept .entries) (now out) × (size .mechanisms ≤ length (now «component_counts»)) ⌝ }
+    ensures { λ r. ⌜ Finished kept size (now (starts .entry)) (now («detector_counts» .entry)) (now («observable_counts» .entry)) (now (entries .entry)) (now («component_counts» .entry)) (now (out .entry)) r (now («component_counts» .exit)) (now (out .exit)) ⌝ }
+{
+    let first = kept.mechanisms;
+    let end = size.mechanisms;
+    copies::zero_bytes(&mut component_counts[first..end]);
+    append_lists(
+        first,
+        end,
+        kept.entries,
+        starts,
+        detector_counts,
+        observable_counts,
+        entries,
+        out,
+    );
+    Decomposed::Into(Counts {
+        mechanisms: end,
+        components: kept.components,
+        entries: size.entries,
+    })
+}
+
+// Each larger mechanism is split over the kept ones, and what was appended is written.
+fn split_kept(
+    mechanisms: usize,
+    kept: Counts,
+    room: Size,
+    probability: &[f64],
+    detector_counts: &[u8],
+    observable_counts: &[u8],
+    component_counts: &[u8],
+    component_detectors: &[u8],
+    component_observables: &[u8],
+    entries: &[u32],
+    first_of: &[u32],
+    next_of: &[u32],
+    starts: &mut [u32],
+    out_probability: &mut [f64],
+    out_detector_counts: &mut [u8],
+    out_observable_counts: &mut [u8],
+    out_component_counts: &mut [u8],
+    out_entries: &mut [u32],
+    last_of: &mut [u32],
+    before: &mut [u32],
+    numbers: &mut [u32],
+    masks: &mut [u16],
+    words0: &mut [u64],
+    words1: &mut [u64],
+    earlier: &mut [u32],
+) -> Decomposed
+    requires { ⌜ Begun mechanisms (tables (now probability) (now «detector_counts») (now «observable_counts») (now «component_counts») (now «component_detectors») (now «component_observables») (now entries)) (kept .mechanisms) (record { mechanisms = kept .mechanisms; entries = kept .entries }) room (now «first_of») (now «next_of») (now starts) (now «out_detector_counts») (now «out_observable_counts») (now «out_probability») (now «last_of») (now before) (now numbers) (now masks) (now words0) (now words1) (now earlier) × Roomy (keptOf (modelOf mechanisms (tables (now probability) (now «detector_counts») (now «observable_counts») (now «component_counts») (now «component_detectors») (now «component_observables») (now entries)))) kept room (now «out_component_counts») (now «out_entries») ⌝ }
+    ensures { λ r. ⌜ ((was : Tables) (cds cos : List ℕ) → tables (now («out_probability» .entry)) (now («out_detector_counts» .entry)) (now («out_observable_counts» .entry)) (now («out_component_counts» .entry)) cds cos (now («out_entries» .entry)) ≡ tablesWritten (keptOf (modelOf mechanisms (tables (now (probability .entry)) (now («detector_counts» .entry)) (now («observable_counts» .entry)) (now («component_counts» .entry)) (now («component_detectors» .entry)) (now («component_observables» .entry)) (now (entries .entry))))) was → Made (decompose (placesOf room) (modelOf mechanisms (tables (now (probability .entry)) (now («detector_counts» .entry)) (now («observable_counts» .entry)) (now («component_counts» .entry)) (now («component_detectors» .entry)) (now («component_observables» .entry)) (now (entries .entry))))) was r (tables (now («out_probability» .exit)) (now («out_detector_counts» .exit)) (now («out_observable_counts» .exit)) (now («out_component_counts» .exit)) cds cos (now («out_entries» .exit)))) ⌝ }
+{
+    let size = Size {
+        mechanisms: kept.mechanisms,
+        entries: kept.entries,
+    };
+    let step = decompose::split_all(
+        mechanisms,
+        kept.mechanisms,
+        size,
+        room,
+        probability,
+        detector_counts,
+        observable_counts,
+        component_counts,
+        component_detectors,
+        component_observables,
+        entries,
+        first_of,
+        next_of,
+        starts,
+        out_detector_counts,
+        out_observable_counts,
+        out_probability,
+        last_of,
+        before,
+        numbers,
+        masks,
+        words0,
+        words1,
+        earlier,
+    );
+    match step {
+        Step::Refused(r) => Decomposed::Refused(r),
+        Step::Grown(grown) => finish(
+            kept,
+            grown,
+            starts,
+            out_detector_counts,
+            out_observable_counts,
+            entries,
+            out_component_counts,
+            out_entries,
+        ),
     }
 }
