@@ -1,43 +1,42 @@
--- `decomposed::finish` meets its contract.
+-- `decomposed::finish`: a part that was zeroed, and the lists after those of the kept mechanisms.
+use mathlib.Core.Path.{_≡_, refl, sym, ap, _∙_}
+use native.Mathlib.Omega.{arith}
+use Rattle.decomposed.specs.Made.{Finished}
+use Rattle.decomposed.proofs.Growing.{zero-part}
 use borrow.Author.Needs.{needs}
 use Rattle.decomposed.proofs.finish.Statement.{statement}
 use Rattle.decomposed.proofs.finish.Tie as tie
-use Rattle.decomposed.proofs.finish.Reads as reads
-use Rattle.decomposed.proofs.finish.Lts as lts
-use Rattle.copies.proofs.zero_bytes.Reads as zero-bytes-reads
-use Rattle.decomposed.proofs.append_lists.Reads as append-lists-reads
 
--- src/lib.rt:82:24
 sub-zero-bytes : tie.Need-sub-zero-bytes
 sub-zero-bytes c = search needs
 
--- src/lib.rt:82:24
 part-zero-bytes-start : tie.Need-part-zero-bytes-start
 part-zero-bytes-start c = search needs
 
--- src/lib.rt:82:24
 part-zero-bytes-end : tie.Need-part-zero-bytes-end
 part-zero-bytes-end c = search needs
 
--- src/lib.rt:82:5
 zero-bytes-requires : tie.Need-zero-bytes-requires
 zero-bytes-requires c κs = search needs
 
--- src/lib.rt:83:5
 append-lists-requires : tie.Need-append-lists-requires
 append-lists-requires c κs = search needs
 
--- src/lib.rt:67:1
 same-length : tie.Need-same-length
 same-length c = search needs
 
--- src/lib.rt:67:1
 same-length-2 : tie.Need-same-length-2
 same-length-2 c = search needs
 
--- src/lib.rt:67:1
 returns : tie.Need-returns
-returns c = ?
+returns c =
+    let args = c .before .before .before .before .before .before .before .before .before .before .before .before .before .before .args in
+    let pre = c .before .before .before .before .before .before .before .before .before .before .before .before .before .before .pre in
+    record {
+      answer = refl;
+      component-counts = zero-part (args .kept .mechanisms) (args .size .mechanisms) (args .component-counts .now) _ (pre .0 .ordered) (pre .1) (c .before .before .before .before .before .before .zero-bytes .ensures);
+      entries = c .before .before .append-lists .ensures;
+    }
 
 pub finish-spec : {M : Type 1} → statement M
 finish-spec =
