@@ -1,3 +1,4 @@
 pub mod Appending
 pub mod Keeps
 pub mod Growing
+pub mod Starting

@@ -1,3 +1,4 @@
 pub mod Call
 pub mod Appended
 pub mod Made
+pub mod Started

@@ -10,6 +10,7 @@ ghost use Rattle.suggested.specs.Held.{placesOf};
 ghost use Rattle.decompose.specs.Begun.{Begun};
 ghost use Rattle.decomposed.specs.Appended.{listsFrom, Appendable};
 ghost use Rattle.decomposed.specs.Made.{Finished, Roomy, Made};
+ghost use Rattle.decomposed.specs.Started.{Startable, Started, Decomposable};
 use codes::Refusal;
 use decompose::Counts;
 use splits::Step;
@@ -171,4 +172,152 @@ fn split_kept(
             out_entries,
         ),
     }
+}
+
+// ---- a checked model
+
+// The kept mechanisms are copied, and linked by their first detectors.
+fn start(
+    mechanisms: usize,
+    probability: &[f64],
+    detector_counts: &[u8],
+    observable_counts: &[u8],
+    component_counts: &[u8],
+    component_detectors: &[u8],
+    component_observables: &[u8],
+    entries: &[u32],
+    out_probability: &mut [f64],
+    out_detector_counts: &mut [u8],
+    out_observable_counts: &mut [u8],
+    out_component_counts: &mut [u8],
+    out_component_detectors: &mut [u8],
+    out_component_observables: &mut [u8],
+    out_entries: &mut [u32],
+    starts: &mut [u32],
+    before: &mut [u32],
+    last_of: &mut [u32],
+    first_of: &mut [u32],
+    next_of: &mut [u32],
+) -> Counts
+    requires { ⌜ Startable mechanisms (tables (now probability) (now «detector_counts») (now «observable_counts») (now «component_counts») (now «component_detectors») (now «component_observables») (now entries)) (tables (now «out_probability») (now «out_detector_counts») (now «out_observable_counts») (now «out_component_counts») (now «out_component_detectors») (now «out_component_observables») (now «out_entries»)) (now starts) (now before) (now «last_of») (now «first_of») (now «next_of») ⌝ }
+    ensures { λ r. ⌜ Started mechanisms (tables (now (probability .entry)) (now («detector_counts» .entry)) (now («observable_counts» .entry)) (now («component_counts» .entry)) (now («component_detectors» .entry)) (now («component_observables» .entry)) (now (entries .entry))) (tables (now («out_probability» .entry)) (now («out_detector_counts» .entry)) (now («out_observable_counts» .entry)) (now («out_component_counts» .entry)) (now («out_component_detectors» .entry)) (now («out_component_observables» .entry)) (now («out_entries» .entry))) (now (starts .entry)) r (tables (now («out_probability» .exit)) (now («out_detector_counts» .exit)) (now («out_observable_counts» .exit)) (now («out_component_counts» .exit)) (now («out_component_detectors» .exit)) (now («out_component_observables» .exit)) (now («out_entries» .exit))) (now (starts .exit)) (now (before .exit)) (now («last_of» .exit)) (now («first_of» .exit)) (now («next_of» .exit)) ⌝ }
+{
+    let kept = decompose::copy_kept(
+        mechanisms,
+        probability,
+        detector_counts,
+        observable_counts,
+        component_counts,
+        component_detectors,
+        component_observables,
+        entries,
+        out_probability,
+        out_detector_counts,
+        out_observable_counts,
+        out_component_counts,
+        out_component_detectors,
+        out_component_observables,
+        out_entries,
+        starts,
+    );
+    suggested::index_last(
+        starts,
+        out_detector_counts,
+        entries,
+        kept.mechanisms,
+        last_of,
+        before,
+    );
+    cover::index_kept(
+        starts,
+        out_detector_counts,
+        entries,
+        kept.mechanisms,
+        first_of,
+        next_of,
+    );
+    kept
+}
+
+// The model is decomposed into the output tables; a refusal leaves them as they are by then.
+fn decompose_checked(
+    mechanisms: usize,
+    room: Size,
+    probability: &[f64],
+    detector_counts: &[u8],
+    observable_counts: &[u8],
+    component_counts: &[u8],
+    component_detectors: &[u8],
+    component_observables: &[u8],
+    entries: &[u32],
+    out_probability: &mut [f64],
+    out_detector_counts: &mut [u8],
+    out_observable_counts: &mut [u8],
+    out_component_counts: &mut [u8],
+    out_component_detectors: &mut [u8],
+    out_component_observables: &mut [u8],
+    out_entries: &mut [u32],
+    starts: &mut [u32],
+    before: &mut [u32],
+    last_of: &mut [u32],
+    first_of: &mut [u32],
+    next_of: &mut [u32],
+    numbers: &mut [u32],
+    masks: &mut [u16],
+    words0: &mut [u64],
+    words1: &mut [u64],
+    earlier: &mut [u32],
+) -> Decomposed
+    requires { ⌜ Decomposable mechanisms (tables (now probability) (now «detector_counts») (now «observable_counts») (now «component_counts») (now «component_detectors») (now «component_observables») (now entries)) (tables (now «out_probability») (now «out_detector_counts») (now «out_observable_counts») (now «out_component_counts») (now «out_component_detectors») (now «out_component_observables») (now «out_entries»)) room (now starts) (now before) (now «last_of») (now «first_of») (now «next_of») (now numbers) (now masks) (now words0) (now words1) (now earlier) ⌝ }
+    ensures { λ r. ⌜ Made (decompose (placesOf room) (modelOf mechanisms (tables (now (probability .entry)) (now («detector_counts» .entry)) (now («observable_counts» .entry)) (now («component_counts» .entry)) (now («component_detectors» .entry)) (now («component_observables» .entry)) (now (entries .entry))))) (tables (now («out_probability» .entry)) (now («out_detector_counts» .entry)) (now («out_observable_counts» .entry)) (now («out_component_counts» .entry)) (now («out_component_detectors» .entry)) (now («out_component_observables» .entry)) (now («out_entries» .entry))) r (tables (now («out_probability» .exit)) (now («out_detector_counts» .exit)) (now («out_observable_counts» .exit)) (now («out_component_counts» .exit)) (now («out_component_detectors» .exit)) (now («out_component_observables» .exit)) (now («out_entries» .exit))) ⌝ }
+{
+    let kept = start(
+        mechanisms,
+        probability,
+        detector_counts,
+        observable_counts,
+        component_counts,
+        component_detectors,
+        component_observables,
+        entries,
+        out_probability,
+        out_detector_counts,
+        out_observable_counts,
+        out_component_counts,
+        out_component_detectors,
+        out_component_observables,
+        out_entries,
+        starts,
+        before,
+        last_of,
+        first_of,
+        next_of,
+    );
+    split_kept(
+        mechanisms,
+        kept,
+        room,
+        probability,
+        detector_counts,
+        observable_counts,
+        component_counts,
+        component_detectors,
+        component_observables,
+        entries,
+        first_of,
+        next_of,
+        starts,
+        out_probability,
+        out_detector_counts,
+        out_observable_counts,
+        out_component_counts,
+        out_entries,
+        last_of,
+        before,
+        numbers,
+        masks,
+        words0,
+        words1,
+        earlier,
+    )
 }
