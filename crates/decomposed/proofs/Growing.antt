@@ -34,7 +34,8 @@ use Rattle.decomposed.specs.Call.{countsOf}
 use Rattle.decomposed.specs.Appended.{listsFrom, Appendable}
 use Rattle.decomposed.specs.Made.{Finished, Roomy, Made}
 use Rattle.decomposed.proofs.Appending.{lists-split}
-use Rattle.decomposed.proofs.Keeps.{Placed, placed}
+use Rattle.decomposed.specs.Laws.{Placed}
+use Rattle.decomposed.proofs.Keeps.{placed}
 
 -- what is written over a shorter list
 pub written-over : {A : Type 0} (a b was : List A) → length a ≤ length b → written b (written a was) ≡ written b was
@@ -210,18 +211,17 @@ module _ (n : ℕ) (t : Tables) (room : Size) (was : Tables) (size : Size) (star
     unfolding tablesWritten
     made x cs′ out′ f =
         let rest : size .mechanisms - kept .mechanisms ≡ length (grows .new) = omega (arith, longer, many, ap (λ (z : Size). z .mechanisms) (g .sized)) in
-        subst (λ (y : Split). Made y old x (tables ps counts others cs′ cds cos out′)) (sym (g .is))
-        (
+        subst (λ (y : Split). Made y old x (tables ps counts others cs′ cds cos out′)) (sym (g .is)) (
           f .answer ∙ same-counts _ _ _ (ap (λ (z : Size). z .mechanisms) (g .sized))
-          (ap (λ (c : Counts). c .components) (r .counted) ∙ ap length (sym (grows .component-detectors)))
-          (ap (λ (z : Size). z .entries) (g .sized)),
+              (ap (λ (c : Counts). c .components) (r .counted) ∙ ap length (sym (grows .component-detectors)))
+              (ap (λ (z : Size). z .entries) (g .sized)),
           same-tables ps counts others cs′ cds cos out′ probability-is counts-are others-are
-          (after-kept (kept .mechanisms) (tablesOf ks .component-counts) (replicate (length (grows .new)) 0) cs cs′ (old .component-counts) (tablesOf ms .component-counts)
-          (ap (λ (u : Tables). u .component-counts) e) (many ∙ sym (lengths ks .component-counts)) (grows .component-counts)
-          (f .component-counts ∙ ap (λ (k : ℕ). written (take (kept .mechanisms) cs ++ replicate k 0) cs) rest))
-          (ap (λ (u : Tables). u .component-detectors) e ∙ ap (λ (l : List ℕ). written l (old .component-detectors)) (sym (grows .component-detectors)))
-          (ap (λ (u : Tables). u .component-observables) e ∙ ap (λ (l : List ℕ). written l (old .component-observables)) (sym (grows .component-observables)))
-          (after-kept (kept .entries) (tablesOf ks .entries) (symptomEntries (grows .new)) out out′ (old .entries) (tablesOf ms .entries)
-          (ap (λ (u : Tables). u .entries) e) (listed ∙ entries-are ks) (grows .entries)
-          (f .entries ∙ ap (λ (l : List Symptom). written (take (kept .entries) out ++ symptomEntries l) out) lists-are))
+              (after-kept (kept .mechanisms) (tablesOf ks .component-counts) (replicate (length (grows .new)) 0) cs cs′ (old .component-counts) (tablesOf ms .component-counts)
+              (ap (λ (u : Tables). u .component-counts) e) (many ∙ sym (lengths ks .component-counts)) (grows .component-counts)
+              (f .component-counts ∙ ap (λ (k : ℕ). written (take (kept .mechanisms) cs ++ replicate k 0) cs) rest))
+              (ap (λ (u : Tables). u .component-detectors) e ∙ ap (λ (l : List ℕ). written l (old .component-detectors)) (sym (grows .component-detectors)))
+              (ap (λ (u : Tables). u .component-observables) e ∙ ap (λ (l : List ℕ). written l (old .component-observables)) (sym (grows .component-observables)))
+              (after-kept (kept .entries) (tablesOf ks .entries) (symptomEntries (grows .new)) out out′ (old .entries) (tablesOf ms .entries)
+              (ap (λ (u : Tables). u .entries) e) (listed ∙ entries-are ks) (grows .entries)
+              (f .entries ∙ ap (λ (l : List Symptom). written (take (kept .entries) out ++ symptomEntries l) out) lists-are)),
         )

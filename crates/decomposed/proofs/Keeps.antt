@@ -24,6 +24,7 @@ use Rattle.suggested.proofs.Turns.{stopped}
 use Rattle.splits.proofs.Suggests.{all-one-or-two}
 use Rattle.decompose.specs.Begun.{symptomsOf}
 use Rattle.decompose.proofs.Grows.{fresh, none-in, stays}
+use Rattle.decomposed.specs.Laws.{Placed}
 
 module _ (room : Places) (P : List ErrorMechanism → Type 0)
     (on-raise : (p : Float) (k : ℕ) (a : List ErrorMechanism) → P a → P (addAt p k a))
@@ -81,10 +82,6 @@ module _ (room : Places) (P : List ErrorMechanism → Type 0)
   keeps ms b e h = all-mechanisms (symptomsOf (keptOf ms)) 0 ms (into (keptOf ms)) b (λ d q. let w : keptOf ms ≡ d = cc in subst P w h) e
 
 -- ---- the lent places
-
-pub record Placed (room : Places) (ms : List ErrorMechanism) : Type 0 where
-  pub mechanisms : length ms ≤ room .mechanisms
-  pub entries : entriesOf ms ≤ room .entries
 
 place-new : (room : Places) (p : Float) (s : Symptom) (a : List ErrorMechanism) → hasPlace room s a ≡ true → Placed room (a ++ (fresh p s ∷ []))
 unfolding hasPlace entriesOf

@@ -2,3 +2,4 @@ pub mod Appending
 pub mod Keeps
 pub mod Growing
 pub mod Starting
+pub mod Laws

@@ -240,7 +240,7 @@ fn start(
 }
 
 // The model is decomposed into the output tables; a refusal leaves them as they are by then.
-fn decompose_checked(
+pub fn decompose_checked(
     mechanisms: usize,
     room: Size,
     probability: &[f64],
