@@ -59,6 +59,13 @@ lists-wider D O l m h =
 
 -- ---- the check
 
+-- two tests, the second tried where the first holds
+pub both : (a b c d : Bool) → a ≡ c → b ≡ d → a ≡ true → b ≡ (c && d)
+both a b c d p q t = rw (← p, t, ← q)
+
+pub not-first : (a c d : Bool) → a ≡ c → a ≡ false → a ≡ (c && d)
+not-first a c d p f = rw (← p, f)
+
 module _ (D O n : ℕ) (t was : Tables) (s : Scratch) where
   pub over-limit : (c : Checked) (r : Refusal) → c ≡ checkCounts D O n → c ≡ Refused r → Refused r ≡ checked D O n t was s
   unfolding checked

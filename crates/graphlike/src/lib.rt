@@ -63,7 +63,11 @@ fn output_long(
         fits(
             n,
             out_detector_counts.len(),
-            fits(n, out_observable_counts.len(), n <= out_component_counts.len()),
+            fits(
+                n,
+                out_observable_counts.len(),
+                n <= out_component_counts.len(),
+            ),
         ),
     );
     columns && lists
@@ -79,7 +83,15 @@ fn scratch_long(detectors: usize, mechanisms: usize, s: Scratch) -> bool
     let most = 17 * n;
     let words = fits(n, s.words0, fits(n, s.words1, n <= s.earlier));
     let candidates = fits(n, s.next_of, fits(n, s.numbers, fits(n, s.masks, words)));
-    fits(most, s.starts, fits(most, s.before, fits(d, s.last_of, fits(d, s.first_of, candidates))))
+    fits(
+        most,
+        s.starts,
+        fits(
+            most,
+            s.before,
+            fits(d, s.last_of, fits(d, s.first_of, candidates)),
+        ),
+    )
 }
 
 // ---- the check
