@@ -1,0 +1,3 @@
+pub mod FrameKinds
+pub mod ReadTables
+pub mod Answers

@@ -1,0 +1,121 @@
+-- `frames::read_frame`: by the kind.
+use mathlib.Core.Path.{_≡_, refl, sym, ap, _∙_}
+use native.Mathlib.Omega.{arith}
+use borrow.Author.Tests.{lt-ltb, le-ltb, eq-eqb, ne-eqb, not-true, not-false}
+use Prim.Native.Nat.{ℕ}
+use mathlib.Core.Bool.{cond}
+use Rattle.hex.specs.Hex.{bytesOf}
+use Rattle.bits.specs.Rows.{words}
+use Rattle.frames.specs.Counts.{countAfter}
+use Rattle.frames.proofs.FrameKinds.{frame-4, frame-5, frame-6, frame-none, held-of, line-when}
+use borrow.Author.Needs.{needs}
+use Rattle.frames.proofs.read_frame.Statement.{statement}
+use Rattle.frames.proofs.read_frame.Tie as tie
+
+read-header-requires : tie.Need-read-header-requires
+read-header-requires c κs = search needs
+
+returns : tie.Need-returns
+returns c = search needs
+
+read-mechanism-requires : tie.Need-read-mechanism-requires
+read-mechanism-requires c κs = search needs
+
+returns-2 : tie.Need-returns-2
+returns-2 c = search needs
+
+read-component-requires : tie.Need-read-component-requires
+read-component-requires c κs = search needs
+
+returns-3 : tie.Need-returns-3
+returns-3 c = search needs
+
+staged-requires : tie.Need-staged-requires
+staged-requires c κs = search needs
+
+read-words-requires : tie.Need-read-words-requires
+read-words-requires c κs = search needs
+
+returns-4 : tie.Need-returns-4
+unfolding countAfter
+returns-4 c =
+    let args = c .before .before .before .before .before .before .before .args in
+    rw (frame-4 (args .n .detectors) (args .n .observables) (bytesOf (args .line .now)) (c .before .before .before .before .before .before .before .pre .0 ∙ c .before .before .if4 .taken), line-when) (rw (c .before .staged .ensures) at (c .read-words .ensures))
+
+words-requires : tie.Need-words-requires
+words-requires c κs = search needs
+
+mul-count : tie.Need-mul-count
+unfolding words
+mul-count c = record { fits = omega (arith, (held-of (c .before .before .before .before .before .before .before .args .n) (c .before .before .before .before .before .before .before .pre .1)), c .words .ensures) }
+
+add-count : tie.Need-add-count
+unfolding words
+add-count c = omega (arith, (held-of (c .before .before .before .before .before .before .before .args .n) (c .before .before .before .before .before .before .before .pre .1)), c .words .ensures)
+
+staged-requires-2 : tie.Need-staged-requires-2
+staged-requires-2 c κs = search needs
+
+read-words-requires-2 : tie.Need-read-words-requires-2
+read-words-requires-2 c κs = search needs
+
+returns-5 : tie.Need-returns-5
+unfolding countAfter
+returns-5 c =
+    let args = c .before .before .before .before .before .before .before .before .before .args in
+    rw (frame-5 (args .n .detectors) (args .n .observables) (bytesOf (args .line .now)) (c .before .before .before .before .before .before .before .before .before .pre .0 ∙ c .before .before .before .if5 .taken), line-when) (rw (c .before .staged2 .ensures, c .before .before .words .ensures) at (c .read-words2 .ensures))
+
+words-requires-2 : tie.Need-words-requires-2
+words-requires-2 c κs = search needs
+
+mul-count-2 : tie.Need-mul-count-2
+unfolding words
+mul-count-2 c = record { fits = omega (arith, (held-of (c .before .before .before .before .before .before .before .before .args .n) (c .before .before .before .before .before .before .before .before .pre .1)), c .words2 .ensures) }
+
+add-count-2 : tie.Need-add-count-2
+unfolding words
+add-count-2 c = omega (arith, (held-of (c .before .before .before .before .before .before .before .before .args .n) (c .before .before .before .before .before .before .before .before .pre .1)), c .words2 .ensures)
+
+staged-requires-3 : tie.Need-staged-requires-3
+staged-requires-3 c κs = search needs
+
+read-words-requires-3 : tie.Need-read-words-requires-3
+read-words-requires-3 c κs = search needs
+
+returns-6 : tie.Need-returns-6
+unfolding countAfter
+returns-6 c =
+    let args = c .before .before .before .before .before .before .before .before .before .before .args in
+    rw (frame-6 (args .n .detectors) (args .n .observables) (bytesOf (args .line .now)) (c .before .before .before .before .before .before .before .before .before .before .pre .0 ∙ c .before .before .before .if6 .taken), line-when) (rw (c .before .staged3 .ensures, c .before .before .words2 .ensures) at (c .read-words3 .ensures))
+
+returns-7 : tie.Need-returns-7
+returns-7 c =
+    let args = c .before .before .before .before .before .before .before .args in
+    rw (frame-none (args .n .detectors) (args .n .observables) (bytesOf (args .line .now)) (args .kind) (c .before .before .before .before .before .before .before .pre .0) (c .before .before .before .before .before .if1 .left) (c .before .before .before .before .if2 .left) (c .before .before .before .if3 .left) (c .before .before .if4 .left) (c .before .if5 .left) (c .if6 .left))
+
+pub read-frame-spec : {M : Type 1} → statement M
+read-frame-spec =
+    tie.close
+    (tie.spec
+    read-header-requires
+    returns
+    read-mechanism-requires
+    returns-2
+    read-component-requires
+    returns-3
+    staged-requires
+    read-words-requires
+    returns-4
+    words-requires
+    mul-count
+    add-count
+    staged-requires-2
+    read-words-requires-2
+    returns-5
+    words-requires-2
+    mul-count-2
+    add-count-2
+    staged-requires-3
+    read-words-requires-3
+    returns-6
+    returns-7)

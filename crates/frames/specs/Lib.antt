@@ -1,0 +1,4 @@
+pub mod Frames
+pub mod Input
+pub mod Counts
+pub mod Cases

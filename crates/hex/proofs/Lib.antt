@@ -1,0 +1,4 @@
+pub mod Bytes
+pub mod Runs
+pub mod Texts
+pub mod Laws

@@ -1,0 +1,111 @@
+-- `reader::read_line`: the numbers, the tables, then the line.
+use Prim.Native.Nat.{ℕ, _+_, _-_, _*_}
+use mathlib.Core.Path.{_≡_, refl, sym, ap, _∙_}
+use mathlib.Core.List.{List}
+use native.Mathlib.Omega.{arith}
+use lib.ListN.{length, getD, take, drop, set}
+use lib.Seq.{sets}
+use Rattle.hex.specs.Hex.{bytesOf, number, numbers}
+use borrow.Author.Tests.{not-true, not-false}
+use Rattle.frames.specs.Counts.{lineOf}
+use Rattle.reader.specs.Columns.{columns}
+use Rattle.reader.proofs.Reading.{storable, over-read, short-read, refused-read, next-read}
+use borrow.Author.Needs.{needs}
+use Rattle.reader.proofs.read_line.Statement.{statement}
+use Rattle.reader.proofs.read_line.Tie as tie
+
+over-requires : tie.Need-over-requires
+over-requires c κs = search needs
+
+returns : tie.Need-returns
+returns c =
+    let args = c .before .before .before .before .before .before .before .before .before .before .before .before .args in
+    over-read (args .line .now) (args .n) (columns (args .probability-bits .now) (args .detector-counts .now) (args .observable-counts .now) (args .component-counts .now) (args .component-detectors .now) (args .component-observables .now) (args .entries .now) (args .row .now) (args .truth .now)) (sym (c .before .over .ensures) ∙ c .if1 .taken)
+
+long-enough-requires : tie.Need-long-enough-requires
+long-enough-requires c κs = search needs
+
+returns-2 : tie.Need-returns-2
+returns-2 c =
+    let args = c .before .before .before .before .before .before .before .before .before .before .before .before .before .before .args in
+    short-read (args .line .now) (args .n) (columns (args .probability-bits .now) (args .detector-counts .now) (args .observable-counts .now) (args .component-counts .now) (args .component-detectors .now) (args .component-observables .now) (args .entries .now) (args .row .now) (args .truth .now)) (sym (c .before .before .before .over .ensures) ∙ c .before .before .if1 .left) (sym (c .before .long-enough .ensures) ∙ not-true (c .before .long-enough .result) (c .if2 .taken))
+
+next-line-requires : tie.Need-next-line-requires
+next-line-requires c κs = (sym (c .before .before .before .over .ensures) ∙ c .before .before .if1 .left)
+
+enum-known-answer : tie.Need-enum-known-answer
+enum-known-answer c = search needs
+
+enum-known-answer-2 : tie.Need-enum-known-answer-2
+enum-known-answer-2 c = search needs
+
+store-requires : tie.Need-store-requires
+store-requires c κs =
+    let args = c .before .before .before .before .before .before .before .before .before .before .before .before .before .before .before .before .before .before .before .before .before .before .before .before .before .before .before .args in
+    let answer2 = c .before .before .before .before .before .before .before .before .before .before .answer2 in
+    let long-enough = c .before .before .before .before .before .before .before .before .before .before .before .before .before .before .long-enough in
+    storable (args .n) (args .line .now) (columns (args .probability-bits .now) (args .detector-counts .now) (args .observable-counts .now) (args .component-counts .now) (args .component-detectors .now) (args .component-observables .now) (args .entries .now) (args .row .now) (args .truth .now)) (answer2 .given .0 .0) (sym (c .before .before .before .before .before .before .before .before .before .before .before .before .before .before .before .before .over .ensures) ∙ c .before .before .before .before .before .before .before .before .before .before .before .before .before .before .before .if1 .left) (sym (long-enough .ensures) ∙ not-false (long-enough .result) (c .before .before .before .before .before .before .before .before .before .before .before .before .before .if2 .left)) (sym (c .before .before .before .before .before .before .before .before .before .before .before .before .next-line .ensures) ∙ answer2 .given .1)
+
+returns-3 : tie.Need-returns-3
+returns-3 c =
+    let args = c .before .before .before .before .before .before .before .before .before .before .before .before .before .before .before .before .before .before .args in
+    let long-enough = c .before .before .before .before .before .long-enough in
+    refused-read (args .line .now) (args .n) (columns (args .probability-bits .now) (args .detector-counts .now) (args .observable-counts .now) (args .component-counts .now) (args .component-detectors .now) (args .component-observables .now) (args .entries .now) (args .row .now) (args .truth .now)) (sym (c .before .before .before .before .before .before .before .over .ensures) ∙ c .before .before .before .before .before .before .if1 .left) (sym (long-enough .ensures) ∙ not-false (long-enough .result) (c .before .before .before .before .if2 .left)) (c .before .answer .given .0 .0) (sym (c .before .answer .given .1) ∙ c .before .before .before .next-line .ensures)
+
+same-length : tie.Need-same-length
+same-length c = search needs
+
+same-length-2 : tie.Need-same-length-2
+same-length-2 c = search needs
+
+same-length-3 : tie.Need-same-length-3
+same-length-3 c = search needs
+
+same-length-4 : tie.Need-same-length-4
+same-length-4 c = search needs
+
+same-length-5 : tie.Need-same-length-5
+same-length-5 c = search needs
+
+same-length-6 : tie.Need-same-length-6
+same-length-6 c = search needs
+
+same-length-7 : tie.Need-same-length-7
+same-length-7 c = search needs
+
+same-length-8 : tie.Need-same-length-8
+same-length-8 c = search needs
+
+same-length-9 : tie.Need-same-length-9
+same-length-9 c = search needs
+
+returns-4 : tie.Need-returns-4
+returns-4 c =
+    let args = c .before .before .before .before .before .before .before .before .before .before .before .before .before .before .before .before .before .before .before .before .before .before .before .before .before .before .before .before .before .before .before .before .before .before .before .before .before .before .before .before .before .before .before .before .before .before .args in
+    let long-enough = c .before .before .before .before .before .before .before .before .before .before .before .before .before .before .before .before .before .before .before .before .before .before .before .before .before .before .before .before .before .before .before .before .before .long-enough in
+    let answer2 = c .before .before .before .before .before .before .before .before .before .before .before .before .before .before .before .before .before .before .before .before .before .before .before .before .before .before .before .before .before .answer2 in
+    next-read (args .line .now) (args .n) (columns (args .probability-bits .now) (args .detector-counts .now) (args .observable-counts .now) (args .component-counts .now) (args .component-detectors .now) (args .component-observables .now) (args .entries .now) (args .row .now) (args .truth .now)) (sym (c .before .before .before .before .before .before .before .before .before .before .before .before .before .before .before .before .before .before .before .before .before .before .before .before .before .before .before .before .before .before .before .before .before .before .before .over .ensures) ∙ c .before .before .before .before .before .before .before .before .before .before .before .before .before .before .before .before .before .before .before .before .before .before .before .before .before .before .before .before .before .before .before .before .before .before .if1 .left) (sym (long-enough .ensures) ∙ not-false (long-enough .result) (c .before .before .before .before .before .before .before .before .before .before .before .before .before .before .before .before .before .before .before .before .before .before .before .before .before .before .before .before .before .before .before .before .if2 .left)) (answer2 .given .0 .0) _ (sym (answer2 .given .1) ∙ c .before .before .before .before .before .before .before .before .before .before .before .before .before .before .before .before .before .before .before .before .before .before .before .before .before .before .before .before .before .before .before .next-line .ensures) (c .before .before .before .before .before .before .before .before .before .before .before .before .before .before .before .before .before .before .store .ensures)
+
+pub read-line-spec : {M : Type 1} → statement M
+read-line-spec =
+    tie.close
+    (tie.spec
+    over-requires
+    returns
+    long-enough-requires
+    returns-2
+    next-line-requires
+    enum-known-answer
+    enum-known-answer-2
+    store-requires
+    returns-3
+    same-length
+    same-length-2
+    same-length-3
+    same-length-4
+    same-length-5
+    same-length-6
+    same-length-7
+    same-length-8
+    same-length-9
+    returns-4)
