@@ -1,6 +1,8 @@
 -- What each answer becomes across the C boundary: code 0 is success, and no refusal has it.
 use mathlib.Core.Path.{_≡_}
 use Rattle.codes.specs.Codes.{codeOf, firstOf, secondOf}
+use Rattle.decomposed.specs.declared.Decomposed.{Decomposed}
+use Rattle.decomposed.specs.declared.Decomposed.the-variants as decomposed
 use Rattle.graph.specs.declared.Compiled.{Compiled}
 use Rattle.graph.specs.declared.Compiled.the-variants as compiled
 use Rattle.codes.specs.declared.Checked.{Checked}
@@ -10,6 +12,7 @@ use Rattle.decoder.specs.declared.Answer.{Answer}
 use Rattle.decoder.specs.declared.Answer.the-variants as answer
 use Rattle.marking.specs.declared.Marking.{Marking}
 use Rattle.marking.specs.declared.Marking.the-variants as marking
+use Rattle.server.specs.declared.ModelWords.{ModelWords}
 use Rattle.server.specs.declared.GraphWords.{GraphWords}
 use Rattle.server.specs.declared.ShotWords.{ShotWords}
 use Rattle.server.specs.declared.BatchWords.{BatchWords}
@@ -20,6 +23,12 @@ pub record InWords {A W : Type 0} (words : A → W) (P : A → Type 0) (r : W) :
   pub answer : A
   pub told : r ≡ words answer
   pub holds : P answer
+
+-- ---- decomposition
+
+abbrev pub wordsOfModel : Decomposed → ModelWords
+wordsOfModel (decomposed.Into n) = record { code = 0; first = 0; second = 0; mechanisms = n .mechanisms; components = n .components; entries = n .entries }
+wordsOfModel (decomposed.Refused r) = record { code = codeOf r; first = firstOf r; second = secondOf r; mechanisms = 0; components = 0; entries = 0 }
 
 -- ---- compiling
 

@@ -1,6 +1,7 @@
 // The C exports, all of them. Each takes numbers and slices, checks what it is handed and answers with a struct by value.
 use codes::Checked;
 use decoder::Answer;
+use decomposed::Decomposed;
 use graph::Compiled;
 use marking::Marking;
 use scratch::Lengths;
@@ -11,12 +12,14 @@ ghost use Rattle.scratch.specs.Scratch.{lengthsOf};
 ghost use Rattle.decoder.specs.Answer.{handed, Decodes};
 ghost use Rattle.marker.specs.Answer.{Marks};
 ghost use Rattle.dem.specs.Positions.{tables};
+ghost use Rattle.decomposed.specs.Call as decomposition;
+ghost use Rattle.graphlike.specs.Lent.{scratchOf};
 ghost use Rattle.graph.specs.Tables.{slices};
 ghost use Rattle.graph.specs.Outcome.{outcome, Compiles};
 ghost use Prim.Native.Nat.{_≤_};
 ghost use Rattle.codes.specs.Limits.{maxMechanisms};
 ghost use Rattle.server.specs.Lengths.{within, decodeLengths, decomposeWith, decomposeLengths, compileWith, compileLengths, markWith, markLengths};
-ghost use Rattle.server.specs.Words.{InWords, wordsOfGraph, wordsOfMark, wordsOfShot, wordsOfBatch};
+ghost use Rattle.server.specs.Words.{InWords, wordsOfModel, wordsOfGraph, wordsOfMark, wordsOfShot, wordsOfBatch};
 
 // The answer of compiling.
 #[repr(C)]
@@ -425,4 +428,74 @@ pub extern "C" fn pavrenni_decode_shot(
         live,
         bits,
     ))
+}
+
+// The answer of decomposition: the mechanisms, components and entries of the new model.
+#[repr(C)]
+pub struct ModelWords {
+    pub code: u32,
+    pub first: usize,
+    pub second: usize,
+    pub mechanisms: usize,
+    pub components: usize,
+    pub entries: usize,
+}
+
+fn model_words(a: Decomposed) -> ModelWords
+    ensures { λ r. ⌜ r ≡ wordsOfModel a ⌝ }
+{
+    match a {
+        Decomposed::Into(n) => ModelWords {
+            code: 0,
+            first: 0,
+            second: 0,
+            mechanisms: n.mechanisms,
+            components: n.components,
+            entries: n.entries,
+        },
+        Decomposed::Refused(r) => ModelWords {
+            code: codes::code(r) as u32,
+            first: codes::first_value(r),
+            second: codes::second_value(r) as usize,
+            mechanisms: 0,
+            components: 0,
+            entries: 0,
+        },
+    }
+}
+
+// A model decomposed. Long for its parameters, one a line.
+#[no_mangle]
+pub extern "C" fn pavrenni_decompose(
+    detectors: usize,
+    observables: usize,
+    mechanisms: usize,
+    probability: &[f64],
+    detector_counts: &[u8],
+    observable_counts: &[u8],
+    component_counts: &[u8],
+    component_detectors: &[u8],
+    component_observables: &[u8],
+    entries: &[u32],
+    out_probability: &mut [f64],
+    out_detector_counts: &mut [u8],
+    out_observable_counts: &mut [u8],
+    out_component_counts: &mut [u8],
+    out_component_detectors: &mut [u8],
+    out_component_observables: &mut [u8],
+    out_entries: &mut [u32],
+    starts: &mut [u32],
+    before: &mut [u32],
+    last_of: &mut [u32],
+    first_of: &mut [u32],
+    next_of: &mut [u32],
+    numbers: &mut [u32],
+    masks: &mut [u16],
+    words0: &mut [u64],
+    words1: &mut [u64],
+    earlier: &mut [u32],
+) -> ModelWords
+    ensures { λ r. ⌜ InWords wordsOfModel (λ a. decomposition.Decomposes (decomposition.outcome detectors observables mechanisms (tables (now (probability .entry)) (now («detector_counts» .entry)) (now («observable_counts» .entry)) (now («component_counts» .entry)) (now («component_detectors» .entry)) (now («component_observables» .entry)) (now (entries .entry))) (tables (now («out_probability» .entry)) (now («out_detector_counts» .entry)) (now («out_observable_counts» .entry)) (now («out_component_counts» .entry)) (now («out_component_detectors» .entry)) (now («out_component_observables» .entry)) (now («out_entries» .entry))) (scratchOf (now (starts .entry)) (now (before .entry)) (now («last_of» .entry)) (now («first_of» .entry)) (now («next_of» .entry)) (now (numbers .entry)) (now (masks .entry)) (now (words0 .entry)) (now (words1 .entry)) (now (earlier .entry)))) a (tables (now («out_probability» .entry)) (now («out_detector_counts» .entry)) (now («out_observable_counts» .entry)) (now («out_component_counts» .entry)) (now («out_component_detectors» .entry)) (now («out_component_observables» .entry)) (now («out_entries» .entry))) (tables (now («out_probability» .exit)) (now («out_detector_counts» .exit)) (now («out_observable_counts» .exit)) (now («out_component_counts» .exit)) (now («out_component_detectors» .exit)) (now («out_component_observables» .exit)) (now («out_entries» .exit)))) r ⌝ }
+{
+    model_words(graphlike::decompose_graphlike(detectors, observables, mechanisms, probability, detector_counts, observable_counts, component_counts, component_detectors, component_observables, entries, out_probability, out_detector_counts, out_observable_counts, out_component_counts, out_component_detectors, out_component_observables, out_entries, starts, before, last_of, first_of, next_of, numbers, masks, words0, words1, earlier))
 }
