@@ -145,14 +145,84 @@ fn run(
 
 fn main() {
     let ascending: [u32; 32] = [
-        0, 1, 2, 3, 4, 5, 6, 7, 8, 9, 10, 11, 12, 13, 14, 15, 0, 1, 2, 3, 4, 5, 6, 7, 8, 9, 10, 11,
-        12, 13, 14, 15,
+        0,
+        1,
+        2,
+        3,
+        4,
+        5,
+        6,
+        7,
+        8,
+        9,
+        10,
+        11,
+        12,
+        13,
+        14,
+        15,
+        0,
+        1,
+        2,
+        3,
+        4,
+        5,
+        6,
+        7,
+        8,
+        9,
+        10,
+        11,
+        12,
+        13,
+        14,
+        15,
     ];
     let pairs = [2u8; 8];
-    run(b"16 entries", 4096, 1, &[0.25], &[16], &[8], &pairs, &ascending, 8);
-    run(b"17 entries", 4096, 1, &[0.25], &[17], &[0], &pairs, &ascending, 8);
-    run(b"4096 detectors", 4096, 1, &[0.25], &[1], &[0], &[], &[4095], 8);
-    run(b"4097 detectors", 4097, 1, &[0.25], &[1], &[0], &[], &[4096], 8);
+    run(
+        b"16 entries",
+        4096,
+        1,
+        &[0.25],
+        &[16],
+        &[8],
+        &pairs,
+        &ascending,
+        8,
+    );
+    run(
+        b"17 entries",
+        4096,
+        1,
+        &[0.25],
+        &[17],
+        &[0],
+        &pairs,
+        &ascending,
+        8,
+    );
+    run(
+        b"4096 detectors",
+        4096,
+        1,
+        &[0.25],
+        &[1],
+        &[0],
+        &[],
+        &[4095],
+        8,
+    );
+    run(
+        b"4097 detectors",
+        4097,
+        1,
+        &[0.25],
+        &[1],
+        &[0],
+        &[],
+        &[4096],
+        8,
+    );
     // 0.25 added to 0.25 is 0.375, in the last of two mechanisms of the same lists
     run(
         b"last duplicate",
@@ -177,7 +247,17 @@ fn main() {
         &[2, 0, 1, 2, 0, 1, 0, 1, 2],
         8,
     );
-    run(b"triple of probability 0", 3, 1, &[0.0], &[3], &[0], &[], &[0, 1, 2], 8);
+    run(
+        b"triple of probability 0",
+        3,
+        1,
+        &[0.0],
+        &[3],
+        &[0],
+        &[],
+        &[0, 1, 2],
+        8,
+    );
     // mechanism 1 of its components would find no place
     run(
         b"6 before a later 1",

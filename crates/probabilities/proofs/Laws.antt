@@ -111,20 +111,20 @@ module _ (D O : ℕ) where
       let U = tables qs ds os bs cds cos es in
       case-of (ltb 16 c)
       (λ (t : ltb 16 c ≡ true).
-        let l = ltb-true 16 c t in
-        let b = k 0 (omega arith) in
-        ap (λ (x : Checked). andThen x (checkModel D O (suc i) (modelOf n (restOf U)))) (refused-many D O i (firstOf U) (omega (arith, many (getD bs 0 0) cds cos (drop (getD ds 0 0 + getD os 0 0) es), b)))
-        ∙ sym (ap (λ (x : Checked). andThen x (checkModel D O (suc i) (modelOf n (restOf T)))) (refused-many D O i (firstOf T) (omega (arith, many c cds cos (drop (getD ds 0 0 + getD os 0 0) es))))))
+      let l = ltb-true 16 c t in
+      let b = k 0 (omega arith) in
+      ap (λ (x : Checked). andThen x (checkModel D O (suc i) (modelOf n (restOf U)))) (refused-many D O i (firstOf U) (omega (arith, many (getD bs 0 0) cds cos (drop (getD ds 0 0 + getD os 0 0) es), b)))
+      ∙ sym (ap (λ (x : Checked). andThen x (checkModel D O (suc i) (modelOf n (restOf T)))) (refused-many D O i (firstOf T) (omega (arith, many c cds cos (drop (getD ds 0 0 + getD os 0 0) es))))))
       (λ (f : ltb 16 c ≡ false).
-        let l = ltb-false 16 c f in
-        let e : getD bs 0 0 ≡ c = omega (arith, k 0 (omega arith)) in
-        let d = getD ds 0 0 in
-        let o = getD os 0 0 in
-        rw e
-        (ap₂ andThen
-        (check-other D O i (getD ps 0 nan) (getD qs 0 nan) (record { detectors = take d es; observables = take o (drop d es) }) (componentsOf c cds cos (drop (d + o) es)) (h .fits 0 (omega arith)))
-        (check-alike n (suc i) (drop 1 ps) (drop 1 qs) (drop 1 ds) (drop 1 os) (drop 1 cs) (drop 1 bs) (drop c cds) (drop c cos) (drop (d + o + componentEntries c cds cos) es)
-        (alike-rest n ps qs h) (bytes-rest n cs bs k))))
+      let l = ltb-false 16 c f in
+      let e : getD bs 0 0 ≡ c = omega (arith, k 0 (omega arith)) in
+      let d = getD ds 0 0 in
+      let o = getD os 0 0 in
+      rw e
+      (ap₂ andThen
+      (check-other D O i (getD ps 0 nan) (getD qs 0 nan) (record { detectors = take d es; observables = take o (drop d es) }) (componentsOf c cds cos (drop (d + o) es)) (h .fits 0 (omega arith)))
+      (check-alike n (suc i) (drop 1 ps) (drop 1 qs) (drop 1 ds) (drop 1 os) (drop 1 cs) (drop 1 bs) (drop c cds) (drop c cos) (drop (d + o + componentEntries c cds cos) es)
+      (alike-rest n ps qs h) (bytes-rest n cs bs k))))
 
   pub same-accepted : (n i : ℕ) (ps qs : List Float) (ds os cs bs cds cos es : List ℕ) → Alike n ps qs → Bytes n cs bs
       → checkModel D O i (modelOf n (tables qs ds os bs cds cos es)) ≡ Accepted
@@ -137,23 +137,23 @@ module _ (D O : ℕ) where
       let parts = then-accepted (checkMechanism D O i (firstOf U)) (checkModel D O (suc i) (modelOf n (restOf U))) a in
       case-of (ltb 16 c)
       (λ (t : ltb 16 c ≡ true).
-        let l = ltb-true 16 c t in
-        let b = k 0 (omega arith) in
-        let r = refused-many D O i (firstOf U) (omega (arith, many (getD bs 0 0) cds cos (drop (getD ds 0 0 + getD os 0 0) es), b)) in
-        let y = parts .0 in
-        let z : _≡_ {A = ℕ} 0 1 = cc in
-        absurd (omega arith))
+      let l = ltb-true 16 c t in
+      let b = k 0 (omega arith) in
+      let r = refused-many D O i (firstOf U) (omega (arith, many (getD bs 0 0) cds cos (drop (getD ds 0 0 + getD os 0 0) es), b)) in
+      let y = parts .0 in
+      let z : _≡_ {A = ℕ} 0 1 = cc in
+      absurd (omega arith))
       (λ (f : ltb 16 c ≡ false).
-        let l = ltb-false 16 c f in
-        let e : getD bs 0 0 ≡ c = omega (arith, k 0 (omega arith)) in
-        let d = getD ds 0 0 in
-        let o = getD os 0 0 in
-        rw e
-        (ap₂ {C = List ErrorMechanism} (λ (m : ErrorMechanism) (ms : List ErrorMechanism). m ∷ ms)
-        (ap {B = ErrorMechanism} (λ (p : Float). record { probability = p; symptom = record { detectors = take d es; observables = take o (drop d es) }; components = componentsOf c cds cos (drop (d + o) es) })
-        (h .same 0 (omega arith) (accepted-fits D O i (firstOf U) (parts .0))))
-        (same-accepted n (suc i) (drop 1 ps) (drop 1 qs) (drop 1 ds) (drop 1 os) (drop 1 cs) (drop 1 bs) (drop c cds) (drop c cos) (drop (d + o + componentEntries c cds cos) es)
-        (alike-rest n ps qs h) (bytes-rest n cs bs k) (rw e at (parts .1)))))
+      let l = ltb-false 16 c f in
+      let e : getD bs 0 0 ≡ c = omega (arith, k 0 (omega arith)) in
+      let d = getD ds 0 0 in
+      let o = getD os 0 0 in
+      rw e
+      (ap₂ {C = List ErrorMechanism} (λ (m : ErrorMechanism) (ms : List ErrorMechanism). m ∷ ms)
+      (ap {B = ErrorMechanism} (λ (p : Float). record { probability = p; symptom = record { detectors = take d es; observables = take o (drop d es) }; components = componentsOf c cds cos (drop (d + o) es) })
+      (h .same 0 (omega arith) (accepted-fits D O i (firstOf U) (parts .0))))
+      (same-accepted n (suc i) (drop 1 ps) (drop 1 qs) (drop 1 ds) (drop 1 os) (drop 1 cs) (drop 1 bs) (drop c cds) (drop c cos) (drop (d + o + componentEntries c cds cos) es)
+      (alike-rest n ps qs h) (bytes-rest n cs bs k) (rw e at (parts .1)))))
 
 pub laws : Laws
 laws = record {

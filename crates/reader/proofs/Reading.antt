@@ -131,21 +131,22 @@ module _ (n : State) (line : List ℕ) (c : Columns) (t : State) (w : overCounts
       record {
         kind = some-long n l (k .order);
         mechanism = λ h.
-          let (long, v) = when-next n t _ _ (rw (frame-2 D O l h) at (k .frame)) in
-          let q = held-of (countAfter n (mechanism (number (take 8 (drop 1 l))) (symptomOf (drop 9 l)))) v in
-          (long, omega (arith, q .mechanisms), q .entries);
+            let (long, v) = when-next n t _ _ (rw (frame-2 D O l h) at (k .frame)) in
+            let q = held-of (countAfter n (mechanism (number (take 8 (drop 1 l))) (symptomOf (drop 9 l)))) v in
+            (long, omega (arith, q .mechanisms), q .entries);
         component = λ h.
-          let (long, v) = when-next n t _ _ (rw (frame-3 D O l h) at (k .frame)) in
-          let q = held-of (countAfter n (component (symptomOf (drop 1 l)))) v in
-          (long, order-component (n .stage) (n .mechanisms) (rw h at (k .order)), here .mechanisms, omega (arith, q .components), q .entries);
+            let (long, v) = when-next n t _ _ (rw (frame-3 D O l h) at (k .frame)) in
+            let q = held-of (countAfter n (component (symptomOf (drop 1 l)))) v in
+            (long, order-component (n .stage) (n .mechanisms) (rw h at (k .order)), here .mechanisms, omega (arith, q .components), q .entries);
         row = λ h.
-          let (long, v) = when-next n t _ _ (rw (frame-5 D O l h) at (k .frame)) in
-          (eqb-true _ _ long, omega (arith, here .detectors));
+            let (long, v) = when-next n t _ _ (rw (frame-5 D O l h) at (k .frame)) in
+            (eqb-true _ _ long, omega (arith, here .detectors));
         truth = λ h.
-          let (long, v) = when-next n t _ _ (rw (frame-6 D O l h) at (k .frame)) in
-          (eqb-true _ _ long, omega (arith, here .observables));
+            let (long, v) = when-next n t _ _ (rw (frame-6 D O l h) at (k .frame)) in
+            (eqb-true _ _ long, omega (arith, here .observables));
         room = g;
       }
+
 -- ---- what is read with the line
 
 module _ (s : Input) (line : List ℕ) where
@@ -220,6 +221,6 @@ module _ (line : List ℕ) (n : State) (c : Columns) where
     untouched = λ x z. never-next x t (sym z);
     answer = λ s h _. answered (Next t) e s h;
     tables = λ s h _.
-      q ∙ ap (λ (m : State). stored m (frameOf (m .detectors) (m .observables) (bytesOf line)) c) (h .counts)
-      ∙ frame-stored s line c t (h .tables) g (rw (h .counts) at (h .within)) (taken (countsOf s) line t (rw (h .counts) at (sym e)));
+        q ∙ ap (λ (m : State). stored m (frameOf (m .detectors) (m .observables) (bytesOf line)) c) (h .counts)
+        ∙ frame-stored s line c t (h .tables) g (rw (h .counts) at (h .within)) (taken (countsOf s) line t (rw (h .counts) at (sym e)));
   }

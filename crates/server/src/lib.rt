@@ -497,5 +497,33 @@ pub extern "C" fn pavrenni_decompose(
 ) -> ModelWords
     ensures { λ r. ⌜ InWords wordsOfModel (λ a. decomposition.Decomposes (decomposition.outcome detectors observables mechanisms (tables (now (probability .entry)) (now («detector_counts» .entry)) (now («observable_counts» .entry)) (now («component_counts» .entry)) (now («component_detectors» .entry)) (now («component_observables» .entry)) (now (entries .entry))) (tables (now («out_probability» .entry)) (now («out_detector_counts» .entry)) (now («out_observable_counts» .entry)) (now («out_component_counts» .entry)) (now («out_component_detectors» .entry)) (now («out_component_observables» .entry)) (now («out_entries» .entry))) (scratchOf (now (starts .entry)) (now (before .entry)) (now («last_of» .entry)) (now («first_of» .entry)) (now («next_of» .entry)) (now (numbers .entry)) (now (masks .entry)) (now (words0 .entry)) (now (words1 .entry)) (now (earlier .entry)))) a (tables (now («out_probability» .entry)) (now («out_detector_counts» .entry)) (now («out_observable_counts» .entry)) (now («out_component_counts» .entry)) (now («out_component_detectors» .entry)) (now («out_component_observables» .entry)) (now («out_entries» .entry))) (tables (now («out_probability» .exit)) (now («out_detector_counts» .exit)) (now («out_observable_counts» .exit)) (now («out_component_counts» .exit)) (now («out_component_detectors» .exit)) (now («out_component_observables» .exit)) (now («out_entries» .exit)))) r ⌝ }
 {
-    model_words(graphlike::decompose_graphlike(detectors, observables, mechanisms, probability, detector_counts, observable_counts, component_counts, component_detectors, component_observables, entries, out_probability, out_detector_counts, out_observable_counts, out_component_counts, out_component_detectors, out_component_observables, out_entries, starts, before, last_of, first_of, next_of, numbers, masks, words0, words1, earlier))
+    model_words(graphlike::decompose_graphlike(
+        detectors,
+        observables,
+        mechanisms,
+        probability,
+        detector_counts,
+        observable_counts,
+        component_counts,
+        component_detectors,
+        component_observables,
+        entries,
+        out_probability,
+        out_detector_counts,
+        out_observable_counts,
+        out_component_counts,
+        out_component_detectors,
+        out_component_observables,
+        out_entries,
+        starts,
+        before,
+        last_of,
+        first_of,
+        next_of,
+        numbers,
+        masks,
+        words0,
+        words1,
+        earlier,
+    ))
 }
