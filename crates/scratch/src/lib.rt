@@ -99,7 +99,7 @@ pub fn no_lengths() -> Lengths
 }
 
 // Whether one slice has the entries needed, and so have the rest.
-fn fits(need: usize, len: usize, rest: bool) -> bool
+pub fn fits(need: usize, len: usize, rest: bool) -> bool
     ensures { λ r. ⌜ r ≡ (leb need len && rest) ⌝ }
 {
     if len < need {
@@ -109,7 +109,7 @@ fn fits(need: usize, len: usize, rest: bool) -> bool
 }
 
 // The same of one entry more than n.
-fn fits_past(n: usize, len: usize, rest: bool) -> bool
+pub fn fits_past(n: usize, len: usize, rest: bool) -> bool
     ensures { λ r. ⌜ r ≡ (ltb n len && rest) ⌝ }
 {
     if len <= n {
