@@ -33,7 +33,7 @@ unfolding answerOf
 stuck-steps (impossible m e) n d h = cc
 stuck-steps (corrected m list) n d h = cc
 
-decoded-steps : (x : Decoded) (n k : ℕ) → answer.Decoded n k ≡ answerOf Accepted x → (list : List ℕ) × (x ≡ corrected n list) × (k ≡ length list)
+pub decoded-steps : (x : Decoded) (n k : ℕ) → answer.Decoded n k ≡ answerOf Accepted x → (list : List ℕ) × (x ≡ corrected n list) × (k ≡ length list)
 unfolding answerOf
 decoded-steps (impossible m e) n k h = clash refl cc
 decoded-steps (corrected m list) n k h = (list, cc, cc)
@@ -48,7 +48,7 @@ steps-decoded n list = refl
 
 -- ---- a call that is not refused
 
-module _ (h : Handed) (r : Answer) (list row : List ℕ) (p : Decodes h r list row) (ok : checks h ≡ Accepted) (zero : Blank (graphOfCall h) (h .row)) where
+module _ (h : Handed) (r : Answer) (list row : List ℕ) (p : Decodes h r list row) (ok : checks h ≡ Accepted) where
   abbrev g : Graph
   g = graphOfCall h
 
@@ -79,32 +79,32 @@ module _ (h : Handed) (r : Answer) (list row : List ℕ) (p : Decodes h r list r
   hands-is (n, es, e) = (n, length es, answer-is (corrected n es) e ∙ steps-decoded n es)
 
   -- the marker is not refused either
-  mark-checked : (was marks wrong : List ℕ) → markerLong (h .graph .detectors) (h .graph .observables) (h .graph .edges) (length was) (length marks) (length wrong) ≡ true
+  pub mark-checked : (was marks wrong : List ℕ) → markerLong (h .graph .detectors) (h .graph .observables) (h .graph .edges) (length was) (length marks) (length wrong) ≡ true
       → checkMark (h .graph) was marks wrong (h .shot) (h .width) ≡ Accepted
   unfolding checks
   mark-checked was marks wrong long =
       ap (λ (b : Bool). checkCall (h .graph) b (h .shot) 1 (h .width)) (long ∙ sym (call-accepted (h .graph) (ownLong h) (h .shot) 1 (h .width) ok .own-long)) ∙ ok
 
   module _ (n : ℕ) (es : List ℕ) (e : decoded h ≡ corrected n es) where
-    whole : Whole bySteps g lit es
+    pub whole : Whole bySteps g lit es
     whole = found .whole n es e
 
-    listed : (take (length es) list ≡ es) × (drop (length es) list ≡ drop (length es) (h .list))
+    pub listed : (take (length es) list ≡ es) × (drop (length es) list ≡ drop (length es) (h .list))
     unfolding listLeft
     listed = rw (list-is (corrected n es) e) (take-append-seam es (drop (length es) (h .list)), drop-append-seam es (drop (length es) (h .list)))
 
-    row-is : take (words (h .graph .observables)) row ≡ rowOf g es
+    row-is : Blank (graphOfCall h) (h .row) → take (words (h .graph .observables)) row ≡ rowOf g es
     unfolding graphOf
-    row-is = ap (λ (s : List ℕ). take (words (h .graph .observables)) s) row-left ∙ whole .row (h .row) zero
+    row-is zero = ap (λ (s : List ℕ). take (words (h .graph .observables)) s) row-left ∙ whole .row (h .row) zero
 
     past-row : drop (words (h .graph .observables)) row ≡ drop (words (h .graph .observables)) (h .row)
     unfolding graphOf
     past-row = ap (λ (s : List ℕ). drop (words (h .graph .observables)) s) row-left ∙ whole .past (h .row)
 
     -- of the list itself
-    over : HandsOver h n (length es) (es ++ drop (length es) (h .list)) row
+    over : Blank (graphOfCall h) (h .row) → HandsOver h n (length es) (es ++ drop (length es) (h .list)) row
     unfolding graphOf
-    over =
+    over zero =
         let t = take-append-seam es (drop (length es) (h .list)) in
         let (known, distinct) = found .fitting es .0 (whole .fits) in
         record {
@@ -112,7 +112,7 @@ module _ (h : Handed) (r : Answer) (list row : List ℕ) (p : Decodes h r list r
           known = rw t known;
           distinct = rw t distinct;
           explains = rw t (whole .explains);
-          row-is = rw t row-is;
+          row-is = rw t (row-is zero);
           xored = rw t (found .xored es);
           past-list = drop-append-seam es (drop (length es) (h .list));
           past-row = past-row;
@@ -120,14 +120,14 @@ module _ (h : Handed) (r : Answer) (list row : List ℕ) (p : Decodes h r list r
           marked = rw t (λ was marks wrong m left long k.
               let j = marker-stated (h .graph) (h .shot) (h .width) es was marks wrong m left k (mark-checked was marks wrong long) in
               let passed = j .exactly .1 (whole .fits, whole .explains) in
-              (passed, j .row-is passed ∙ sym row-is, j .past-row));
+              (passed, j .row-is passed ∙ sym (row-is zero), j .past-row));
         }
 
-  hands-over : (n k : ℕ) → r ≡ answer.Decoded n k → HandsOver h n k list row
+  pub hands-over : Blank (graphOfCall h) (h .row) → (n k : ℕ) → r ≡ answer.Decoded n k → HandsOver h n k list row
   unfolding listLeft
-  hands-over n k e =
+  hands-over zero n k e =
       let (es, x, len) = decoded-steps (decoded h) n k (sym e ∙ answer-is (decoded h) refl) in
-      subst (λ (j : ℕ). HandsOver h n j list row) (sym len) (subst (λ (s : List ℕ). HandsOver h n (length es) s row) (sym (list-is (corrected n es) x)) (over n es x))
+      subst (λ (j : ℕ). HandsOver h n j list row) (sym len) (subst (λ (s : List ℕ). HandsOver h n (length es) s row) (sym (list-is (corrected n es) x)) (over n es x zero))
 
   stuck-names : (n d : ℕ) → r ≡ answer.Stuck n d → StuckNames h n d list row
   unfolding listLeft
@@ -140,14 +140,14 @@ module _ (h : Handed) (r : Answer) (list row : List ℕ) (p : Decodes h r list r
         named = found .named n d x;
       }
 
-  pub stated : Stated h r list row
-  stated = record {
+  pub stated : Blank (graphOfCall h) (h .row) → Stated h r list row
+  stated zero = record {
     either = ⊎-elim (λ s. inl (stuck-is s)) (λ s. inr (hands-is s)) (found .either);
     exactly = (
       (λ s. λ es q. found .exactly .0 (is-stuck s) es (q .0) (q .1)),
       (λ none. stuck-is (found .exactly .1 (λ es a b. none es (a, b)))),
     );
-    decoded = hands-over;
+    decoded = hands-over zero;
     stuck = stuck-names;
   }
 
