@@ -14,12 +14,6 @@ pub fn decode_and_mark(
     detectors: usize,
     observables: usize,
     edges: usize,
-    edge_u: &[u32],
-    edge_v: &[u32],
-    edge_weight: &[f64],
-    edge_obs: &[u64],
-    shot: &[u64],
-    width: usize,
     row: &mut [u64],
     list: &mut [u32],
     adj_offsets: &mut [u32],
@@ -48,6 +42,12 @@ pub fn decode_and_mark(
     marked: &mut [u64],
     marks: &mut [u64],
     wrong: &mut [u64],
+    edge_u: &[u32],
+    edge_v: &[u32],
+    edge_weight: &[f64],
+    edge_obs: &[u64],
+    shot: &[u64],
+    width: usize,
 ) -> Marking
     ensures { λ m. ⌜ Verified (handed (lentOf detectors observables edges (now («edge_u» .entry)) (now («edge_v» .entry)) (now («edge_weight» .entry)) (now («edge_obs» .entry))) (now (shot .entry)) width (now (row .entry)) (now (list .entry)) (lengthsOf (length (now («adj_offsets» .entry))) (length (now («adj_edge» .entry))) (length (now («adj_far» .entry))) (length (now (defects .entry))) (length (now (seen .entry))) (length (now (active .entry))) (length (now (front .entry))) (length (now (touched .entry))) (length (now (cnt .entry))) (length (now (fresh .entry))) (length (now («order_edge» .entry))) (length (now («order_parent» .entry))) (length (now (lit .entry))) (length (now (growth .entry))) (length (now (sat .entry))) (length (now (known .entry))) (length (now (parent .entry))) (length (now (odd .entry))) (length (now («boundary_edge» .entry))) (length (now (hot .entry))) (length (now (free .entry))) (length (now (live .entry))) (length (now (bits .entry))))) (now (marked .entry)) (now (marks .entry)) (now (wrong .entry)) m (now (list .exit)) (now (row .exit)) (now (marked .exit)) ⌝ }
 {
@@ -55,12 +55,6 @@ pub fn decode_and_mark(
         detectors,
         observables,
         edges,
-        edge_u,
-        edge_v,
-        edge_weight,
-        edge_obs,
-        shot,
-        width,
         row,
         list,
         adj_offsets,
@@ -86,6 +80,12 @@ pub fn decode_and_mark(
         free,
         live,
         bits,
+        edge_u,
+        edge_v,
+        edge_weight,
+        edge_obs,
+        shot,
+        width,
     );
     match answer {
         Answer::Decoded { rounds: _, length } => marker::mark(

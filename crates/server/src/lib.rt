@@ -355,15 +355,6 @@ fn batch_words(a: Checked) -> BatchWords
 // A shot decoded. Long for its parameters, one a line.
 #[no_mangle]
 pub extern "C" fn pavrenni_decode_shot(
-    detectors: usize,
-    observables: usize,
-    edges: usize,
-    edge_u: &[u32],
-    edge_v: &[u32],
-    edge_weight: &[f64],
-    edge_obs: &[u64],
-    shot: &[u64],
-    width: usize,
     row: &mut [u64],
     list: &mut [u32],
     adj_offsets: &mut [u32],
@@ -389,6 +380,15 @@ pub extern "C" fn pavrenni_decode_shot(
     free: &mut [bool],
     live: &mut [bool],
     bits: &mut [u64],
+    detectors: usize,
+    observables: usize,
+    edges: usize,
+    edge_u: &[u32],
+    edge_v: &[u32],
+    edge_weight: &[f64],
+    edge_obs: &[u64],
+    shot: &[u64],
+    width: usize,
 ) -> ShotWords
     ensures { λ r. ⌜ InWords wordsOfShot (λ a. Decodes (handed (lentOf detectors observables edges (now («edge_u» .entry)) (now («edge_v» .entry)) (now («edge_weight» .entry)) (now («edge_obs» .entry))) (now (shot .entry)) width (now (row .entry)) (now (list .entry)) (lengthsOf (length (now («adj_offsets» .entry))) (length (now («adj_edge» .entry))) (length (now («adj_far» .entry))) (length (now (defects .entry))) (length (now (seen .entry))) (length (now (active .entry))) (length (now (front .entry))) (length (now (touched .entry))) (length (now (cnt .entry))) (length (now (fresh .entry))) (length (now («order_edge» .entry))) (length (now («order_parent» .entry))) (length (now (lit .entry))) (length (now (growth .entry))) (length (now (sat .entry))) (length (now (known .entry))) (length (now (parent .entry))) (length (now (odd .entry))) (length (now («boundary_edge» .entry))) (length (now (hot .entry))) (length (now (free .entry))) (length (now (live .entry))) (length (now (bits .entry))))) a (now (list .exit)) (now (row .exit))) r ⌝ }
 {
@@ -396,12 +396,6 @@ pub extern "C" fn pavrenni_decode_shot(
         detectors,
         observables,
         edges,
-        edge_u,
-        edge_v,
-        edge_weight,
-        edge_obs,
-        shot,
-        width,
         row,
         list,
         adj_offsets,
@@ -427,6 +421,12 @@ pub extern "C" fn pavrenni_decode_shot(
         free,
         live,
         bits,
+        edge_u,
+        edge_v,
+        edge_weight,
+        edge_obs,
+        shot,
+        width,
     ))
 }
 
