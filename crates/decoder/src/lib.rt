@@ -358,6 +358,7 @@ fn decode_tabled(
     )
 }
 
+// The slices that the call writes stand first, and each function below it takes one step: with one more the checker does not come to an end. One parameter a line makes them long.
 pub fn decode_shot(
     detectors: usize,
     observables: usize,
