@@ -1,9 +1,9 @@
 -- The numbers answer as the definition does.
-use Prim.Native.Nat.{ℕ, zero, suc, _+_, _-_, _*_, _<_, _≤_}
+use Prim.Native.Nat.{ℕ, _+_, _-_, _*_, _<_}
 use native.Mathlib.Omega.{arith}
-use mathlib.Core.Path.{_≡_, refl, sym, ap, ap₂, _∙_}
+use mathlib.Core.Path.{_≡_, refl, sym, ap, _∙_}
 use mathlib.Core.List.{List, [], _∷_, _++_}
-use mathlib.Core.Bool.{Bool, true, false, cond, _&&_, _||_}
+use mathlib.Core.Bool.{Bool, true, false, cond, _||_}
 use mathlib.Core.Option.{Option, none, some}
 use lib.ListN.{length, take, drop, length-append}
 use lib.Dec.{eqb, ltb}
@@ -19,8 +19,9 @@ use Rattle.frames.specs.declared.State.{State}
 use Rattle.frames.specs.declared.Line.{Line}
 use Rattle.frames.specs.declared.Line.the-variants.{Next, Refused}
 use Rattle.frames.specs.Frames.{Frame, header, mechanism, component, end, row, truth, when, kindOf, symptomLong, symptomOf, frameOf}
-use Rattle.frames.specs.Input.{Given, Input, Read, next, refused, tablesRead, inOrder, after, over, held, readFrame, readBytes, readLine}
+use Rattle.frames.specs.Input.{Input, Read, next, refused, tablesRead, inOrder, after, over, held, readFrame, readBytes, readLine}
 use Rattle.frames.specs.Counts.{countsOf, answerOf, countAfter, capped, frameLine, lineOf}
+use Rattle.frames.specs.Laws.{Laws}
 use Rattle.frames.proofs.ReadTables.{fresh, theirs-fresh, entries-fresh, length-with, theirs-with, entries-with}
 
 -- ---- the numbers with one frame more
@@ -159,3 +160,6 @@ read-held s t line e =
     let l = bytesOf line in
     let o = frameOf (s .detectors) (s .observables) l in
     frame-within s t o (cond-next (inOrder (s .stage) (length (s .mechanisms)) (kindOf l)) (readFrame s o) t (cond-next (isHex line) (readBytes s l) t e))
+
+pub laws : Laws
+laws = record { answers = answers; held = read-held }

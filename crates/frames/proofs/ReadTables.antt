@@ -1,11 +1,11 @@
 -- The tables of a model with a mechanism more, or with a component more.
-use Prim.Native.Nat.{ℕ, zero, suc, _+_, _-_, _<_, _≤_}
+use Prim.Native.Nat.{ℕ, suc, _+_, _-_, _<_}
 use native.Mathlib.Omega.{arith}
-use mathlib.Core.Path.{_≡_, refl, sym, ap, ap₂, _∙_}
+use mathlib.Core.Path.{_≡_, refl, sym, ap, _∙_}
 use mathlib.Core.List.{List, [], _∷_, _++_, map, append-assoc, append-nil}
 use lib.ListN.{length, getD, set, length-append}
 use Rattle.dem.specs.Model.{Symptom}
-use Rattle.dem.specs.Tables.{Tables, tablesOf, symptomEntries, componentDetectors, componentObservables}
+use Rattle.dem.specs.Tables.{tablesOf, symptomEntries, componentDetectors, componentObservables}
 use Rattle.frames.specs.Input.{Given, tablesRead, withComponent}
 
 -- ---- a mechanism more

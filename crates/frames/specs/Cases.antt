@@ -1,23 +1,22 @@
 -- Document 01's example, and cases at the edges, by computation.
 use Prim.Native.Nat.{ℕ}
 use mathlib.Core.Path.{_≡_, refl}
-use mathlib.Core.List.{List, [], _∷_}
+use mathlib.Core.List.{List, [], _∷_, _++_}
 use Rattle.codes.specs.declared.Refusal.the-variants as refusal
 use Rattle.codes.specs.declared.Checked.the-variants.{Accepted, Refused}
 use Rattle.hex.specs.Hex.{textOf}
-use Rattle.dem.specs.Tables.{tablesOf}
-use Rattle.frames.specs.declared.Stage.the-variants.{Nothing, InModel, BetweenShots, AfterRow}
-use Rattle.frames.specs.Input.{Given, Input, Read, next, refused, start, readLine, Meaning, meaningOf}
+use Rattle.frames.specs.declared.Stage.the-variants.{InModel, BetweenShots}
+use Rattle.frames.specs.Input.{Given, Input, next, refused, start, readLine, meaningOf}
 
--- the six lines of document 01's example
-abbrev pub exampleLines : List ℕ
-exampleLines =
+-- document 01's example: six lines, the last one without its line feed
+abbrev pub exampleText : List ℕ
+exampleText =
     48 ∷ 49 ∷ 48 ∷ 48 ∷ 48 ∷ 50 ∷ 48 ∷ 48 ∷ 48 ∷ 49 ∷ 10 ∷
     48 ∷ 50 ∷ 51 ∷ 102 ∷ 100 ∷ 48 ∷ 48 ∷ 48 ∷ 48 ∷ 48 ∷ 48 ∷ 48 ∷ 48 ∷ 48 ∷ 48 ∷ 48 ∷ 48 ∷ 48 ∷ 48 ∷ 49 ∷ 48 ∷ 49 ∷ 48 ∷ 48 ∷ 48 ∷ 48 ∷ 48 ∷ 48 ∷ 48 ∷ 48 ∷ 10 ∷
     48 ∷ 50 ∷ 51 ∷ 102 ∷ 100 ∷ 48 ∷ 48 ∷ 48 ∷ 48 ∷ 48 ∷ 48 ∷ 48 ∷ 48 ∷ 48 ∷ 48 ∷ 48 ∷ 48 ∷ 48 ∷ 48 ∷ 50 ∷ 48 ∷ 48 ∷ 48 ∷ 48 ∷ 48 ∷ 48 ∷ 48 ∷ 48 ∷ 48 ∷ 49 ∷ 10 ∷
     48 ∷ 52 ∷ 10 ∷
     48 ∷ 53 ∷ 48 ∷ 48 ∷ 48 ∷ 48 ∷ 48 ∷ 48 ∷ 48 ∷ 48 ∷ 48 ∷ 48 ∷ 48 ∷ 48 ∷ 48 ∷ 48 ∷ 48 ∷ 50 ∷ 10 ∷
-    48 ∷ 54 ∷ 48 ∷ 48 ∷ 48 ∷ 48 ∷ 48 ∷ 48 ∷ 48 ∷ 48 ∷ 48 ∷ 48 ∷ 48 ∷ 48 ∷ 48 ∷ 48 ∷ 48 ∷ 49 ∷ 10 ∷ []
+    48 ∷ 54 ∷ 48 ∷ 48 ∷ 48 ∷ 48 ∷ 48 ∷ 48 ∷ 48 ∷ 48 ∷ 48 ∷ 48 ∷ 48 ∷ 48 ∷ 48 ∷ 48 ∷ 48 ∷ 49 ∷ []
 
 abbrev pub given : ℕ → List ℕ → List ℕ → Given
 given p ds os = record { bits = p; symptom = record { detectors = ds; observables = os }; components = [] }
@@ -38,10 +37,16 @@ exampleInput = record {
 abbrev pub begun : ℕ → ℕ → Input
 begun D O = record { stage = InModel; detectors = D; observables = O; mechanisms = []; row = []; truth = []; shots = [] }
 
+-- and with one mechanism
+abbrev pub holding : Given → Input
+holding g = record { stage = InModel; detectors = 2; observables = 1; mechanisms = g ∷ []; row = []; truth = []; shots = [] }
+
 -- Two wrong readers that these rule out: one that looks at D before the length answers 1 to `header-long`; one that counts row words from the line
 -- takes `row-long` for a row.
 pub record Cases : Type 0 where
-  pub example : meaningOf exampleLines ≡ record { input = exampleInput; ends = Accepted }
+  -- with the last line feed and without
+  pub example : meaningOf (exampleText ++ (10 ∷ [])) ≡ record { input = exampleInput; ends = Accepted }
+  pub unended : meaningOf exampleText ≡ record { input = exampleInput; ends = Accepted }
   -- an input of no lines, and one that ends after the header
   pub empty : meaningOf [] ≡ record { input = start; ends = Refused refusal.Frame }
   pub header-only : meaningOf (textOf (1 ∷ 0 ∷ 2 ∷ 0 ∷ 1 ∷ [])) ≡ record { input = begun 2 1; ends = Refused refusal.Frame }
@@ -55,6 +60,10 @@ pub record Cases : Type 0 where
   pub header-again : readLine (begun 2 1) (textOf (1 ∷ 0 ∷ 2 ∷ 0 ∷ 1 ∷ [])) ≡ refused refusal.Frame
   pub component-first : readLine (begun 2 1) (textOf (3 ∷ 0 ∷ 0 ∷ [])) ≡ refused refusal.Frame
   pub row-early : readLine (begun 2 1) (textOf (5 ∷ 0 ∷ 0 ∷ 0 ∷ 0 ∷ 0 ∷ 0 ∷ 0 ∷ 0 ∷ [])) ≡ refused refusal.Frame
+  -- NaN bits are carried; a component goes to the mechanism above
+  pub nan-bits : readLine (begun 2 1) (textOf (2 ∷ 0x7f ∷ 0xf8 ∷ 0 ∷ 0 ∷ 0 ∷ 0 ∷ 0 ∷ 0 ∷ 0 ∷ 0 ∷ [])) ≡ next (holding (given 0x7ff8000000000000 [] []))
+  pub component-next : readLine (holding (given 0 (1 ∷ []) [])) (textOf (3 ∷ 1 ∷ 1 ∷ 0 ∷ 1 ∷ 0 ∷ 0 ∷ []))
+      ≡ next (holding (record { bits = 0; symptom = record { detectors = 1 ∷ []; observables = [] }; components = record { detectors = 1 ∷ []; observables = 0 ∷ [] } ∷ [] }))
   -- a row with a word too many
   pub row-long : readLine exampleInput (textOf (5 ∷ 0 ∷ 0 ∷ 0 ∷ 0 ∷ 0 ∷ 0 ∷ 0 ∷ 0 ∷ 0 ∷ 0 ∷ 0 ∷ 0 ∷ 0 ∷ 0 ∷ 0 ∷ 0 ∷ [])) ≡ refused refusal.Frame
 
@@ -62,6 +71,7 @@ pub cases : Cases
 unfolding meaningOf readLine start textOf
 cases = record {
   example = refl;
+  unended = refl;
   empty = refl;
   header-only = refl;
   empty-line = refl;
@@ -71,5 +81,7 @@ cases = record {
   header-again = refl;
   component-first = refl;
   row-early = refl;
+  nan-bits = refl;
+  component-next = refl;
   row-long = refl;
 }

@@ -1,16 +1,16 @@
-// Document 01, "Frames": an input read line by line into tables. A line is checked whole before anything is written.
+// Document 01, "Frames": what a line says, and the answer to it by the numbers of what was read.
+use codes::Checked;
 use codes::Refusal;
 ghost use mathlib.Core.Path.{_≡_};
 ghost use mathlib.Core.Bool.{true, false, cond};
-ghost use Prim.Native.Nat.{_≤_};
+ghost use Prim.Native.Nat.{_+_, _≤_};
 ghost use lib.ListN.{length, drop};
 ghost use Rattle.hex.specs.Hex.{bytesOf};
 ghost use Rattle.frames.specs.Frames.{kindOf, symptomLong, symptomOf, frameOf};
-ghost use lib.Dec.{eqb};
 ghost use Rattle.codes.specs.declared.Refusal.the-variants as refusal;
 ghost use Rattle.frames.specs.declared.Stage.the-variants.{InModel};
 ghost use Rattle.frames.specs.declared.Line.the-variants.{Refused};
-ghost use Rattle.frames.specs.Input.{start, inOrder};
+ghost use Rattle.frames.specs.Input.{start, inOrder, atEnd};
 ghost use Rattle.frames.specs.Counts.{countsOf, sizeOf, overCounts, capped, frameLine, lineOf};
 
 // Which kinds of frame may come.
@@ -84,10 +84,22 @@ pub fn over(n: State) -> bool
     MAX_ENTRIES < n.entries
 }
 
-fn capped(n: State) -> Line
-    ensures { λ r. ⌜ r ≡ capped n ⌝ }
+// 3.
+fn wrong() -> Line
+    ensures { λ r. ⌜ r ≡ Refused refusal.Frame ⌝ }
 {
-    if over(n) {
+    Line::Refused(Refusal::Frame)
+}
+
+// 3 before 1: a line that is right is held or not.
+fn judged(right: bool, n: State) -> Line
+    ensures { λ r. ⌜ r ≡ cond right (capped n) (Refused refusal.Frame) ⌝ }
+{
+    let full = over(n);
+    if !right {
+        return Line::Refused(Refusal::Frame);
+    }
+    if full {
         return Line::Refused(Refusal::Limit);
     }
     Line::Next(n)
@@ -124,41 +136,41 @@ fn read_header(line: &[u8], n: State) -> Line
     requires { ⌜ kindOf (bytesOf (now line)) ≡ 1 ⌝ }
     ensures { λ r. ⌜ r ≡ frameLine n (frameOf (n .detectors) (n .observables) (bytesOf (now (line .entry)))) ⌝ }
 {
-    if hex::byte_count(line) != 5 {
-        return Line::Refused(Refusal::Frame);
+    let count = hex::byte_count(line);
+    if count < 5 {
+        return wrong();
     }
     let detectors = hex::u16_at(line, 1) as usize;
     let observables = hex::u16_at(line, 3) as usize;
-    capped(State {
-        stage: Stage::InModel,
-        detectors: detectors,
-        observables: observables,
-        mechanisms: n.mechanisms,
-        components: n.components,
-        entries: n.entries,
-    })
+    judged(
+        count == 5,
+        State {
+            stage: Stage::InModel,
+            detectors: detectors,
+            observables: observables,
+            mechanisms: n.mechanisms,
+            components: n.components,
+            entries: n.entries,
+        },
+    )
 }
 
-// Two lists at byte i end with the line.
-fn symptom_long(line: &[u8], i: usize) -> bool
-    requires { ⌜ i ≤ 9 ⌝ }
-    ensures { λ r. ⌜ r ≡ symptomLong (drop i (bytesOf (now (line .entry)))) ⌝ }
-{
-    let count = hex::byte_count(line);
-    if count < i + 2 {
-        return false;
-    }
-    let d = hex::byte_at(line, i) as usize;
-    let o = hex::byte_at(line, i + 1) as usize;
-    count == i + 2 + 2 * (d + o)
-}
-
-// How many entries they have.
+// How many entries two lists at byte i have.
 fn symptom_size(line: &[u8], i: usize) -> usize
-    requires { ⌜ (i ≤ 9) × (symptomLong (drop i (bytesOf (now line))) ≡ true) ⌝ }
+    requires { ⌜ (i ≤ 9) × (i + 2 ≤ length (bytesOf (now line))) ⌝ }
     ensures { λ r. ⌜ (r ≡ sizeOf (symptomOf (drop i (bytesOf (now (line .entry)))))) × (r ≤ 510) ⌝ }
 {
     hex::byte_at(line, i) as usize + hex::byte_at(line, i + 1) as usize
+}
+
+// They end with the line.
+fn symptom_long(line: &[u8], i: usize) -> bool
+    requires { ⌜ (i ≤ 9) × (i + 2 ≤ length (bytesOf (now line))) ⌝ }
+    ensures { λ r. ⌜ r ≡ symptomLong (drop i (bytesOf (now (line .entry)))) ⌝ }
+{
+    let size = symptom_size(line, i);
+    let count = hex::byte_count(line);
+    count == i + 2 + 2 * size
 }
 
 // 02.
@@ -166,18 +178,24 @@ fn read_mechanism(line: &[u8], n: State) -> Line
     requires { ⌜ (kindOf (bytesOf (now line)) ≡ 2) × (overCounts n ≡ false) ⌝ }
     ensures { λ r. ⌜ r ≡ frameLine n (frameOf (n .detectors) (n .observables) (bytesOf (now (line .entry)))) ⌝ }
 {
-    if !symptom_long(line, 9) {
-        return Line::Refused(Refusal::Frame);
+    if hex::byte_count(line) < 11 {
+        return wrong();
     }
     let size = symptom_size(line, 9);
-    capped(State {
-        stage: Stage::InModel,
-        detectors: n.detectors,
-        observables: n.observables,
-        mechanisms: n.mechanisms + 1,
-        components: n.components,
-        entries: n.entries + size,
-    })
+    let long = symptom_long(line, 9);
+    let mechanisms = n.mechanisms + 1;
+    let entries = n.entries + size;
+    judged(
+        long,
+        State {
+            stage: Stage::InModel,
+            detectors: n.detectors,
+            observables: n.observables,
+            mechanisms: mechanisms,
+            components: n.components,
+            entries: entries,
+        },
+    )
 }
 
 // 03.
@@ -185,28 +203,24 @@ fn read_component(line: &[u8], n: State) -> Line
     requires { ⌜ (kindOf (bytesOf (now line)) ≡ 3) × (overCounts n ≡ false) ⌝ }
     ensures { λ r. ⌜ r ≡ frameLine n (frameOf (n .detectors) (n .observables) (bytesOf (now (line .entry)))) ⌝ }
 {
-    if !symptom_long(line, 1) {
-        return Line::Refused(Refusal::Frame);
+    if hex::byte_count(line) < 3 {
+        return wrong();
     }
     let size = symptom_size(line, 1);
-    capped(State {
-        stage: Stage::InModel,
-        detectors: n.detectors,
-        observables: n.observables,
-        mechanisms: n.mechanisms,
-        components: n.components + 1,
-        entries: n.entries + size,
-    })
-}
-
-// A line of the length that its kind has.
-fn read_words(line: &[u8], count: usize, n: State) -> Line
-    ensures { λ r. ⌜ r ≡ cond (eqb (length (bytesOf (now (line .entry)))) count) (capped n) (Refused refusal.Frame) ⌝ }
-{
-    if hex::byte_count(line) != count {
-        return Line::Refused(Refusal::Frame);
-    }
-    capped(n)
+    let long = symptom_long(line, 1);
+    let components = n.components + 1;
+    let entries = n.entries + size;
+    judged(
+        long,
+        State {
+            stage: Stage::InModel,
+            detectors: n.detectors,
+            observables: n.observables,
+            mechanisms: n.mechanisms,
+            components: components,
+            entries: entries,
+        },
+    )
 }
 
 // The numbers in another stage.
@@ -228,6 +242,7 @@ fn read_frame(line: &[u8], kind: u8, n: State) -> Line
     requires { ⌜ (kindOf (bytesOf (now line)) ≡ kind) × (overCounts n ≡ false) ⌝ }
     ensures { λ r. ⌜ r ≡ frameLine n (frameOf (n .detectors) (n .observables) (bytesOf (now (line .entry)))) ⌝ }
 {
+    let count = hex::byte_count(line);
     if kind == 1 {
         return read_header(line, n);
     }
@@ -238,17 +253,17 @@ fn read_frame(line: &[u8], kind: u8, n: State) -> Line
         return read_component(line, n);
     }
     if kind == 4 {
-        return read_words(line, 1, staged(n, Stage::BetweenShots));
+        return judged(count == 1, staged(n, Stage::BetweenShots));
     }
     if kind == 5 {
-        let count = 1 + 8 * bits::words(n.detectors);
-        return read_words(line, count, staged(n, Stage::AfterRow));
+        let right = 1 + 8 * bits::words(n.detectors);
+        return judged(count == right, staged(n, Stage::AfterRow));
     }
     if kind == 6 {
-        let count = 1 + 8 * bits::words(n.observables);
-        return read_words(line, count, staged(n, Stage::BetweenShots));
+        let right = 1 + 8 * bits::words(n.observables);
+        return judged(count == right, staged(n, Stage::BetweenShots));
     }
-    Line::Refused(Refusal::Frame)
+    wrong()
 }
 
 // The answer to a line: digits, order, kind and length (3), then what is held (1).
@@ -257,15 +272,28 @@ pub fn next_line(line: &[u8], n: State) -> Line
     ensures { λ r. ⌜ r ≡ lineOf n (now (line .entry)) ⌝ }
 {
     if !hex::is_hex(line) {
-        return Line::Refused(Refusal::Frame);
+        return wrong();
     }
     if hex::byte_count(line) == 0 {
-        return Line::Refused(Refusal::Frame);
+        return wrong();
     }
     let kind = hex::byte_at(line, 0);
     let stage = n.stage;
     if !in_order(stage, n.mechanisms, kind) {
-        return Line::Refused(Refusal::Frame);
+        return wrong();
     }
     read_frame(line, kind, n)
+}
+
+// The end of the input: before 04 or after a 05 it is 3.
+pub fn at_end(n: State) -> Checked
+    ensures { λ r. ⌜ r ≡ atEnd (n .stage) ⌝ }
+{
+    let stage = n.stage;
+    match stage {
+        Stage::BetweenShots => Checked::Accepted,
+        Stage::Nothing => Checked::Refused(Refusal::Frame),
+        Stage::InModel => Checked::Refused(Refusal::Frame),
+        Stage::AfterRow => Checked::Refused(Refusal::Frame),
+    }
 }

@@ -1,14 +1,14 @@
 -- What is written is read back.
-use Prim.Native.Nat.{ℕ, zero, suc, _+_, _-_, _*_, _/_, _%_, _≤_, _<_}
+use Prim.Native.Nat.{ℕ, suc, _+_, _-_, _*_, _/_, _%_, _<_}
 use native.Mathlib.Omega.{arith}
-use mathlib.Core.Path.{_≡_, refl, sym, ap, ap₂, _∙_}
-use mathlib.Core.Bool.{Bool, true, false, cond, _&&_}
+use mathlib.Core.Path.{_≡_, refl, ap₂, _∙_}
+use mathlib.Core.Bool.{true, false}
 use mathlib.Core.List.{List, [], _∷_}
 use lib.ListN.{length, getD}
-use lib.Dec.{leb, ltb, eqb}
+use lib.Dec.{ltb}
 use borrow.Author.Tests.{le-leb, lt-leb, ltb-true, ltb-false, eq-eqb}
 use Rattle.lists.proofs.Truth.{case-of}
-use Rattle.hex.specs.Hex.{between, isDigit, digitValue, allDigits, isHex, bytesOf, digitOf, textOf}
+use Rattle.hex.specs.Hex.{isDigit, digitValue, allDigits, isHex, bytesOf, digitOf, textOf}
 use Rattle.hex.specs.Laws.{Laws}
 
 digit-back : (v : ℕ) → v < 16 → (isDigit (digitOf v) ≡ true) × (digitValue (digitOf v) ≡ v)

@@ -1,9 +1,9 @@
 -- Texts: their lengths, and one after another.
 use Prim.Native.Nat.{ℕ, zero, suc, _+_, _-_, _*_, _≤_, _<_}
-use native.Mathlib.Nat.{add-zero, add-suc, suc-add}
+use native.Mathlib.Nat.{add-zero}
 use native.Mathlib.Omega.{arith}
 use native.Mathlib.Numerals.{add-one}
-use mathlib.Core.Path.{_≡_, refl, sym, ap, ap₂, _∙_}
+use mathlib.Core.Path.{_≡_, refl, sym, ap, _∙_}
 use mathlib.Core.List.{List, [], _∷_, _++_}
 use lib.ListN.{length, getD, drop, set, length-append, drop-of-length-le}
 use lib.Seq.{sets, drop-cons}

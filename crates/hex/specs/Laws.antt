@@ -1,10 +1,10 @@
 -- What holds of hexadecimal text; proofs/Laws.antt proves it.
-use Prim.Native.Nat.{ℕ, _<_, _^_}
+use Prim.Native.Nat.{ℕ, _<_}
 use mathlib.Core.Path.{_≡_, refl}
 use mathlib.Core.Bool.{true, false}
 use mathlib.Core.List.{List, [], _∷_}
 use lib.ListN.{getD}
-use Rattle.hex.specs.Hex.{isHex, bytesOf, number, numbers, textOf, bytesIn}
+use Rattle.hex.specs.Hex.{isHex, bytesOf, numbers, textOf, bytesIn}
 
 pub record Laws : Type 0 where
   -- what is written is read back

@@ -1,10 +1,10 @@
 // Document 01, "Frames": lower-case hexadecimal, big-endian. A line is read where it stands, digit by digit, so nothing bounds its length.
 ghost use mathlib.Core.Path.{_≡_};
-ghost use Prim.Native.Nat.{_+_, _*_, _/_, _<_, _≤_, _^_};
+ghost use Prim.Native.Nat.{_+_, _*_, _/_, _<_, _≤_};
 ghost use mathlib.Core.List.{[], _∷_};
 ghost use lib.ListN.{length, getD, take, drop};
 ghost use lib.Seq.{sets};
-ghost use Rattle.hex.specs.Hex.{between, isDigit, digitValue, allDigits, isHex, bytesOf, number, numbers, digitOf, textOf, bytesIn, bytesEach};
+ghost use Rattle.hex.specs.Hex.{between, isDigit, digitValue, isHex, bytesOf, number, numbers, digitOf, textOf, bytesIn, bytesEach};
 
 // ---- digits
 

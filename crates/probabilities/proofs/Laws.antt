@@ -1,13 +1,13 @@
 -- The model check on columns that are alike.
-use Prim.Native.Nat.{ℕ, zero, suc, _+_, _-_, _<_, _≤_, min}
+use Prim.Native.Nat.{ℕ, zero, suc, _+_, _-_, _<_}
 use native.Mathlib.Numerals.{one-add}
 use native.Mathlib.Omega.{arith}
 use mathlib.Core.Path.{_≡_, refl, sym, ap, ap₂, _∙_}
-use mathlib.Core.List.{List, [], _∷_, _++_}
+use mathlib.Core.List.{List, _∷_}
 use mathlib.Core.Bool.{Bool, true, false, cond, not, _&&_}
 use lib.ListN.{length, getD, take, drop}
 use lib.Seq.{getD-drop}
-use lib.Dec.{leb, ltb}
+use lib.Dec.{ltb}
 use lib.Ieee as Ieee
 use lib.Ieee.{Float, binary64, nan, inf, fin}
 use lib.Ieee.Bits.{nanBits-is}
@@ -18,7 +18,7 @@ use Rattle.codes.specs.declared.Checked.{Checked}
 use Rattle.codes.specs.declared.Checked.the-variants.{Accepted, Refused}
 use Rattle.codes.specs.Order.{refuseIf, andThen}
 use Rattle.dem.specs.Model.{Symptom, ErrorMechanism, symptomFits, symptomsFit, listsFit, probabilityFits, checkMechanism, checkModel}
-use Rattle.dem.specs.Tables.{Tables, componentsOf, componentEntries, firstOf, firstEntries, restOf, modelOf}
+use Rattle.dem.specs.Tables.{componentsOf, componentEntries, firstOf, firstEntries, restOf, modelOf}
 use Rattle.dem.specs.Positions.{tables}
 use Rattle.dem.proofs.Accepted.{then-accepted}
 use Rattle.probabilities.specs.Bits.{two, probabilityOf, Alike, Bytes}

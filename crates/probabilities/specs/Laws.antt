@@ -1,5 +1,5 @@
 -- What the model check says of such columns; proofs/Laws.antt proves it.
-use Prim.Native.Nat.{ℕ, _<_}
+use Prim.Native.Nat.{ℕ}
 use mathlib.Core.Path.{_≡_}
 use mathlib.Core.Bool.{true}
 use mathlib.Core.List.{List}

@@ -1,3 +1,4 @@
 pub mod Written
 pub mod Stored
 pub mod Reading
+pub mod Laws

@@ -1,14 +1,13 @@
 -- A line's answer and what it stores are those of the definition.
-use Prim.Native.Nat.{ℕ, zero, suc, _+_, _-_, _*_, _/_, _<_, _≤_}
+use Prim.Native.Nat.{ℕ, _+_, _-_, _*_, _<_, _≤_}
 use native.Mathlib.Omega.{arith}
-use native.Mathlib.Nat.{add-zero}
 use mathlib.Core.Path.{_≡_, refl, sym, ap, ap₂, _∙_}
 use mathlib.Core.List.{List, [], _∷_, _++_}
 use mathlib.Core.Bool.{Bool, true, false, cond}
 use mathlib.Core.Option.{Option, none, some}
 use lib.ListN.{length, getD, take, drop}
 use lib.Seq.{drop-drop}
-use lib.Dec.{eqb, leb}
+use lib.Dec.{eqb}
 use borrow.Author.Tests.{eqb-true, eqb-false}
 use Rattle.lists.proofs.Truth.{case-of, clash, cond-case}
 use Rattle.codes.specs.declared.Refusal.{Refusal}
@@ -20,9 +19,9 @@ use Rattle.frames.specs.declared.State.{State}
 use Rattle.frames.specs.declared.Line.{Line}
 use Rattle.frames.specs.declared.Line.the-variants.{Next, Refused}
 use Rattle.frames.specs.Frames.{Frame, header, mechanism, component, end, row, truth, kindOf, symptomLong, symptomOf, when, frameOf}
-use Rattle.frames.specs.Input.{Input, Read, next, refused, inOrder, after, over, held, readFrame, readBytes, readLine}
-use Rattle.frames.specs.Counts.{countsOf, answerOf, sizeOf, countAfter, overCounts, capped, frameLine, lineOf}
-use Rattle.frames.proofs.FrameKinds.{frame-1, frame-2, frame-3, frame-4, frame-5, frame-6, frame-none, order-none, Held, held-of, first-count, second-count}
+use Rattle.frames.specs.Input.{Input, Read, next, refused, inOrder, after, over, readLine}
+use Rattle.frames.specs.Counts.{countsOf, answerOf, countAfter, overCounts, capped, frameLine, lineOf}
+use Rattle.frames.proofs.FrameKinds.{frame-1, frame-2, frame-3, frame-4, frame-5, frame-6, frame-none, order-none, held-of, first-count, second-count}
 use Rattle.frames.proofs.Answers.{answers, counts-after, follows, order-component}
 use Rattle.reader.specs.Columns.{Columns, columnsAt, roomy, listed, storedFrame, stored, Storable, Holds, readBy, LineRead}
 use Rattle.reader.proofs.Stored.{room-of, WordsFit, store-frame}

@@ -1,26 +1,23 @@
 -- What a frame stores makes the tables of what is read with it.
-use Prim.Native.Nat.{ℕ, zero, suc, _+_, _-_, _*_, _/_, _<_, _≤_}
-use native.Mathlib.Nat.{add-zero}
+use Prim.Native.Nat.{ℕ, suc, _+_, _-_, _<_, _≤_}
 use native.Mathlib.Omega.{arith}
 use mathlib.Core.Path.{_≡_, refl, sym, ap, ap₂, _∙_}
 use mathlib.Core.List.{List, [], _∷_, _++_, map}
-use mathlib.Core.Bool.{Bool, true, false, _&&_}
-use mathlib.Core.Option.{Option, none, some}
-use lib.ListN.{length, getD, take, drop, set, length-append, length-map}
+use mathlib.Core.Bool.{true}
+use lib.ListN.{length, getD, set, length-append, length-map}
 use lib.Seq.{sets}
 use lib.Dec.{leb}
 use borrow.Author.Tests.{leb-true}
 use Rattle.lists.proofs.Truth.{and-left, and-right}
 use Rattle.dem.specs.Model.{Symptom}
 use Rattle.dem.specs.Tables.{written, tablesOf, componentDetectors, componentObservables}
-use Rattle.frames.specs.declared.State.{State}
 use Rattle.frames.specs.Frames.{Frame, header, mechanism, component, end, row, truth}
-use Rattle.frames.specs.Input.{Given, Input, tablesRead, withComponent, after}
+use Rattle.frames.specs.Input.{Given, Input, tablesRead, after}
 use Rattle.frames.specs.Counts.{countsOf, countAfter}
 use Rattle.frames.proofs.FrameKinds.{Held}
-use Rattle.frames.proofs.ReadTables.{fresh, bits-fresh, detectors-fresh, observables-fresh, components-fresh, theirs-fresh, theirs-fresh′, entries-fresh, bits-with, detectors-with, observables-with, components-with, theirs-with, theirs-with′, entries-with}
+use Rattle.frames.proofs.ReadTables.{bits-fresh, detectors-fresh, observables-fresh, components-fresh, theirs-fresh, theirs-fresh′, entries-fresh, bits-with, detectors-with, observables-with, components-with, theirs-with, theirs-with′, entries-with}
 use Rattle.frames.proofs.Answers.{Follows}
-use Rattle.reader.specs.Columns.{Columns, columns, byteOf, columnsAt, longEnough, roomy, listed, storedFrame}
+use Rattle.reader.specs.Columns.{Columns, columns, byteOf, columnsAt, roomy, listed, storedFrame}
 use Rattle.reader.proofs.Written.{written-more, written-put, written-at, written-front, bytes-more}
 
 -- ---- the places

@@ -1,10 +1,10 @@
 -- A table that begins with a list, after a store.
-use Prim.Native.Nat.{ℕ, zero, suc, _+_, _-_, _<_, _≤_, min}
+use Prim.Native.Nat.{ℕ, zero, suc, _+_, _-_, _<_, _≤_}
 use native.Mathlib.Nat.{zero-add}
 use native.Mathlib.Omega.{arith}
 use mathlib.Core.Path.{_≡_, refl, sym, ap, ap₂, _∙_}
 use mathlib.Core.List.{List, [], _∷_, _++_, map}
-use lib.ListN.{length, getD, take, drop, set, length-append, length-set, length-map, List·getD-append, List·getD-map}
+use lib.ListN.{length, getD, take, drop, set, length-append, length-set, List·getD-append, List·getD-map}
 use lib.Seq.{sets, sets-eq, take-append-seam, drop-append-seam, set-append-left}
 use Rattle.dem.specs.Tables.{written}
 use Rattle.reader.specs.Columns.{byteOf}

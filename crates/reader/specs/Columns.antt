@@ -1,7 +1,7 @@
 -- The tables that lines are read into.
 use Prim.Native.Nat.{ℕ, _+_, _-_, _*_, _<_, _≤_, min}
 use mathlib.Core.Path.{_≡_}
-use mathlib.Core.List.{List, [], _∷_, _++_, map}
+use mathlib.Core.List.{List, _++_, map}
 use mathlib.Core.Bool.{Bool, true, false, _&&_}
 use mathlib.Core.Option.{Option, none, some}
 use lib.ListN.{length, getD, drop, set}
@@ -14,9 +14,9 @@ use Rattle.dem.specs.Model.{Symptom}
 use Rattle.dem.specs.Tables.{written}
 use Rattle.frames.specs.declared.State.{State}
 use Rattle.frames.specs.declared.Line.{Line}
-use Rattle.frames.specs.declared.Line.the-variants.{Next, Refused}
+use Rattle.frames.specs.declared.Line.the-variants.{Refused}
 use Rattle.frames.specs.Frames.{Frame, header, mechanism, component, end, row, truth, kindOf, symptomLong, symptomOf}
-use Rattle.frames.specs.Input.{Given, Input, Read, next, refused, tablesRead, readLine}
+use Rattle.frames.specs.Input.{Input, Read, next, refused, tablesRead, readLine}
 use Rattle.frames.specs.Counts.{countsOf, answerOf, sizeOf, overCounts}
 
 pub record Columns : Type 0 where

@@ -87,7 +87,7 @@ fn store_component(
     hex::read_u16s(line, 3, size, entries, at);
 }
 
-// A line that was answered by numbers: its frame into the tables.
+// A line that was answered by numbers: its frame into the tables. Long for the nine tables that each call names.
 fn store(
     line: &[u8],
     n: State,
@@ -141,7 +141,7 @@ fn store(
     }
 }
 
-// A place in every table for all that is held.
+// A place in every table for all that is held. Long for a test of each table.
 fn long_enough(
     probability_bits: usize,
     detector_counts: usize,
@@ -182,7 +182,7 @@ fn long_enough(
     TRUTH_WORDS <= truth
 }
 
-// One line: the numbers of what is read with it, or a refusal, which writes nothing.
+// One line: the numbers of what is read with it, or a refusal, which writes nothing. Long for the nine tables that each call names.
 pub fn read_line(
     line: &[u8],
     n: State,

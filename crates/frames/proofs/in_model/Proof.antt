@@ -1,7 +1,6 @@
 -- `frames::in_model`: by the kind.
-use mathlib.Core.Path.{_≡_, refl, sym, ap, _∙_}
-use native.Mathlib.Omega.{arith}
-use borrow.Author.Tests.{lt-ltb, le-ltb, eq-eqb, ne-eqb, not-true, not-false}
+use mathlib.Core.Path.{sym}
+use borrow.Author.Tests.{ne-eqb}
 use Rattle.frames.specs.Input.{inOrder}
 use Rattle.frames.proofs.FrameKinds.{or-false}
 use Rattle.frames.proofs.in_model.Statement.{statement}

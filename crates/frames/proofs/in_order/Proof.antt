@@ -1,7 +1,4 @@
 -- `frames::in_order`: by the stage.
-use mathlib.Core.Path.{_≡_, refl, sym, ap, _∙_}
-use native.Mathlib.Omega.{arith}
-use borrow.Author.Tests.{lt-ltb, le-ltb, eq-eqb, ne-eqb, not-true, not-false}
 use Rattle.frames.specs.Input.{inOrder}
 use borrow.Author.Needs.{needs}
 use Rattle.frames.proofs.in_order.Statement.{statement}

@@ -1,7 +1,5 @@
 -- `frames::over`: the tests in order.
-use mathlib.Core.Path.{_≡_, refl, sym, ap, _∙_}
-use native.Mathlib.Omega.{arith}
-use borrow.Author.Tests.{lt-ltb, le-ltb, eq-eqb, ne-eqb, not-true, not-false}
+use borrow.Author.Tests.{lt-ltb, le-ltb}
 use Rattle.frames.proofs.over.Statement.{statement}
 use Rattle.frames.proofs.over.Tie as tie
 

@@ -1,9 +1,6 @@
 -- `frames::read_frame`: by the kind.
-use mathlib.Core.Path.{_≡_, refl, sym, ap, _∙_}
+use mathlib.Core.Path.{_∙_}
 use native.Mathlib.Omega.{arith}
-use borrow.Author.Tests.{lt-ltb, le-ltb, eq-eqb, ne-eqb, not-true, not-false}
-use Prim.Native.Nat.{ℕ}
-use mathlib.Core.Bool.{cond}
 use Rattle.hex.specs.Hex.{bytesOf}
 use Rattle.bits.specs.Rows.{words}
 use Rattle.frames.specs.Counts.{countAfter}
@@ -11,6 +8,9 @@ use Rattle.frames.proofs.FrameKinds.{frame-4, frame-5, frame-6, frame-n
 use borrow.Author.Needs.{needs}
 use Rattle.frames.proofs.read_frame.Statement.{statement}
 use Rattle.frames.proofs.read_frame.Tie as tie
+
+byte-count-requires : tie.Need-byte-count-requires
+byte-count-requires c κs = search needs
 
 read-header-requires : tie.Need-read-header-requires
 read-header-requires c κs = search needs
@@ -33,70 +33,74 @@ returns-3 c = search needs
 staged-requires : tie.Need-staged-requires
 staged-requires c κs = search needs
 
-read-words-requires : tie.Need-read-words-requires
-read-words-requires c κs = search needs
+judged-requires : tie.Need-judged-requires
+judged-requires c κs = search needs
 
 returns-4 : tie.Need-returns-4
 unfolding countAfter
 returns-4 c =
-    let args = c .before .before .before .before .before .before .before .args in
-    rw (frame-4 (args .n .detectors) (args .n .observables) (bytesOf (args .line .now)) (c .before .before .before .before .before .before .before .pre .0 ∙ c .before .before .if4 .taken), line-when) (rw (c .before .staged .ensures) at (c .read-words .ensures))
+    let args = c .before .before .before .before .before .before .before .before .args in
+    rw (frame-4 (args .n .detectors) (args .n .observables) (bytesOf (args .line .now)) (c .before .before .before .before .before .before .before .before .pre .0 ∙ c .before .before .if4 .taken), line-when) (rw (c .before .staged .ensures, c .before .before .before .before .before .before .byte-count .ensures) at (c .judged .ensures))
 
 words-requires : tie.Need-words-requires
 words-requires c κs = search needs
 
-mul-count : tie.Need-mul-count
+mul-right : tie.Need-mul-right
 unfolding words
-mul-count c = record { fits = omega (arith, (held-of (c .before .before .before .before .before .before .before .args .n) (c .before .before .before .before .before .before .before .pre .1)), c .words .ensures) }
+mul-right c = record { fits = omega (arith, (held-of (c .before .before .before .before .before .before .before .before .args .n) (c .before .before .before .before .before .before .before .before .pre .1)), c .words .ensures) }
 
-add-count : tie.Need-add-count
+add-right : tie.Need-add-right
 unfolding words
-add-count c = omega (arith, (held-of (c .before .before .before .before .before .before .before .args .n) (c .before .before .before .before .before .before .before .pre .1)), c .words .ensures)
+add-right c = omega (arith, (held-of (c .before .before .before .before .before .before .before .before .args .n) (c .before .before .before .before .before .before .before .before .pre .1)), c .words .ensures)
 
 staged-requires-2 : tie.Need-staged-requires-2
 staged-requires-2 c κs = search needs
 
-read-words-requires-2 : tie.Need-read-words-requires-2
-read-words-requires-2 c κs = search needs
+judged-requires-2 : tie.Need-judged-requires-2
+judged-requires-2 c κs = search needs
 
 returns-5 : tie.Need-returns-5
 unfolding countAfter
 returns-5 c =
-    let args = c .before .before .before .before .before .before .before .before .before .args in
-    rw (frame-5 (args .n .detectors) (args .n .observables) (bytesOf (args .line .now)) (c .before .before .before .before .before .before .before .before .before .pre .0 ∙ c .before .before .before .if5 .taken), line-when) (rw (c .before .staged2 .ensures, c .before .before .words .ensures) at (c .read-words2 .ensures))
+    let args = c .before .before .before .before .before .before .before .before .before .before .args in
+    rw (frame-5 (args .n .detectors) (args .n .observables) (bytesOf (args .line .now)) (c .before .before .before .before .before .before .before .before .before .before .pre .0 ∙ c .before .before .before .if5 .taken), line-when) (rw (c .before .staged2 .ensures, c .before .before .words .ensures, c .before .before .before .before .before .before .before .before .byte-count .ensures) at (c .judged2 .ensures))
 
 words-requires-2 : tie.Need-words-requires-2
 words-requires-2 c κs = search needs
 
-mul-count-2 : tie.Need-mul-count-2
+mul-right-2 : tie.Need-mul-right-2
 unfolding words
-mul-count-2 c = record { fits = omega (arith, (held-of (c .before .before .before .before .before .before .before .before .args .n) (c .before .before .before .before .before .before .before .before .pre .1)), c .words2 .ensures) }
+mul-right-2 c = record { fits = omega (arith, (held-of (c .before .before .before .before .before .before .before .before .before .args .n) (c .before .before .before .before .before .before .before .before .before .pre .1)), c .words2 .ensures) }
 
-add-count-2 : tie.Need-add-count-2
+add-right-2 : tie.Need-add-right-2
 unfolding words
-add-count-2 c = omega (arith, (held-of (c .before .before .before .before .before .before .before .before .args .n) (c .before .before .before .before .before .before .before .before .pre .1)), c .words2 .ensures)
+add-right-2 c = omega (arith, (held-of (c .before .before .before .before .before .before .before .before .before .args .n) (c .before .before .before .before .before .before .before .before .before .pre .1)), c .words2 .ensures)
 
 staged-requires-3 : tie.Need-staged-requires-3
 staged-requires-3 c κs = search needs
 
-read-words-requires-3 : tie.Need-read-words-requires-3
-read-words-requires-3 c κs = search needs
+judged-requires-3 : tie.Need-judged-requires-3
+judged-requires-3 c κs = search needs
 
 returns-6 : tie.Need-returns-6
 unfolding countAfter
 returns-6 c =
-    let args = c .before .before .before .before .before .before .before .before .before .before .args in
-    rw (frame-6 (args .n .detectors) (args .n .observables) (bytesOf (args .line .now)) (c .before .before .before .before .before .before .before .before .before .before .pre .0 ∙ c .before .before .before .if6 .taken), line-when) (rw (c .before .staged3 .ensures, c .before .before .words2 .ensures) at (c .read-words3 .ensures))
+    let args = c .before .before .before .before .before .before .before .before .before .before .before .args in
+    rw (frame-6 (args .n .detectors) (args .n .observables) (bytesOf (args .line .now)) (c .before .before .before .before .before .before .before .before .before .before .before .pre .0 ∙ c .before .before .before .if6 .taken), line-when) (rw (c .before .staged3 .ensures, c .before .before .words2 .ensures, c .before .before .before .before .before .before .before .before .before .byte-count .ensures) at (c .judged3 .ensures))
+
+wrong-requires : tie.Need-wrong-requires
+wrong-requires c κs = search needs
 
 returns-7 : tie.Need-returns-7
 returns-7 c =
-    let args = c .before .before .before .before .before .before .before .args in
-    rw (frame-none (args .n .detectors) (args .n .observables) (bytesOf (args .line .now)) (args .kind) (c .before .before .before .before .before .before .before .pre .0) (c .before .before .before .before .before .if1 .left) (c .before .before .before .before .if2 .left) (c .before .before .before .if3 .left) (c .before .before .if4 .left) (c .before .if5 .left) (c .if6 .left))
+    let args = c .before .before .before .before .before .before .before .before .before .args in
+    rw (c .wrong .ensures, frame-none (args .n .detectors) (args .n .observables) (bytesOf (args .line .now)) (args .kind) (c .before .before .before .before .before .before .before .before .before .pre .0) (c .before .before .before .before .before .before .if1 .left) (c .before .before .before .before .before .if2 .left) (c .before .before .before .before .if3 .left) (c .before .before .before .if4 .left) (c .before .before .if5 .left) (c .before .if6 .left))
 
 pub read-frame-spec : {M : Type 1} → statement M
 read-frame-spec =
     tie.close
     (tie.spec
+    byte-count-requires
     read-header-requires
     returns
     read-mechanism-requires
@@ -104,18 +108,19 @@ read-frame-spec =
     read-component-requires
     returns-3
     staged-requires
-    read-words-requires
+    judged-requires
     returns-4
     words-requires
-    mul-count
-    add-count
+    mul-right
+    add-right
     staged-requires-2
-    read-words-requires-2
+    judged-requires-2
     returns-5
     words-requires-2
-    mul-count-2
-    add-count-2
+    mul-right-2
+    add-right-2
     staged-requires-3
-    read-words-requires-3
+    judged-requires-3
     returns-6
+    wrong-requires
     returns-7)

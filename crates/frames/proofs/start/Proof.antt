@@ -1,7 +1,5 @@
 -- `frames::start`: nothing was read.
-use mathlib.Core.Path.{_≡_, refl, sym, ap, _∙_}
-use native.Mathlib.Omega.{arith}
-use borrow.Author.Tests.{lt-ltb, le-ltb, eq-eqb, ne-eqb, not-true, not-false}
+use mathlib.Core.Path.{refl}
 use Rattle.dem.specs.Tables.{tablesOf}
 use Rattle.frames.specs.Input.{start}
 use Rattle.frames.proofs.start.Statement.{statement}

@@ -1,15 +1,13 @@
 -- `frames::symptom_size`: the sum of the counts.
-use mathlib.Core.Path.{_≡_, refl, sym, ap, _∙_}
-use native.Mathlib.Omega.{arith}
-use borrow.Author.Tests.{lt-ltb, le-ltb, eq-eqb, ne-eqb, not-true, not-false}
+use mathlib.Core.Path.{sym}
 use Rattle.hex.specs.Hex.{bytesOf}
-use Rattle.frames.proofs.FrameKinds.{long-is, size-is}
+use Rattle.frames.proofs.FrameKinds.{size-is}
 use borrow.Author.Needs.{needs}
 use Rattle.frames.proofs.symptom_size.Statement.{statement}
 use Rattle.frames.proofs.symptom_size.Tie as tie
 
 byte-at-requires : tie.Need-byte-at-requires
-byte-at-requires c κs = omega (arith, (long-is (bytesOf (c .before .args .line .now)) (c .before .args .i) (c .before .pre .1)))
+byte-at-requires c κs = search needs
 
 cast-result : tie.Need-cast-result
 cast-result c = search needs
@@ -18,7 +16,7 @@ add-byte-at : tie.Need-add-byte-at
 add-byte-at c = search needs
 
 byte-at-requires-2 : tie.Need-byte-at-requires-2
-byte-at-requires-2 c κs = omega (arith, (long-is (bytesOf (c .before .before .args .line .now)) (c .before .before .args .i) (c .before .before .pre .1)))
+byte-at-requires-2 c κs = search needs
 
 cast-result-2 : tie.Need-cast-result-2
 cast-result-2 c = search needs

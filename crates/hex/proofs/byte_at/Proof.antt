@@ -1,5 +1,5 @@
 -- `hex::byte_at`: the digits of the byte.
-use mathlib.Core.Path.{sym, _∙_}
+use mathlib.Core.Path.{sym}
 use native.Mathlib.Omega.{arith}
 use Rattle.hex.proofs.Bytes.{byte-count, byte-is}
 use borrow.Author.Needs.{needs}

@@ -1,5 +1,5 @@
 -- `hex::digit`: the range that the byte is in.
-use mathlib.Core.Path.{refl, sym, _∙_}
+use mathlib.Core.Path.{sym, _∙_}
 use native.Mathlib.Omega.{arith}
 use Rattle.hex.proofs.Bytes.{between-facts}
 use borrow.Author.Needs.{needs}

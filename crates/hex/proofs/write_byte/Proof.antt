@@ -1,7 +1,6 @@
 -- `hex::write_byte`: two stores.
 use native.Mathlib.Numerals.{add-one}
 use native.Mathlib.Omega.{arith}
-use mathlib.Core.Path.{refl}
 use lib.ListN.{length-set}
 use Rattle.hex.specs.Hex.{textOf}
 use borrow.Author.Needs.{needs}

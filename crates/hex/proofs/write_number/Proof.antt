@@ -1,9 +1,9 @@
 -- `hex::write_number`: the bytes that are left make the whole.
-use Prim.Native.Nat.{ℕ, _+_, _-_, _*_, _≤_}
-use mathlib.Core.Path.{_≡_, refl, sym, ap, _∙_}
+use Prim.Native.Nat.{_+_, _-_, _*_, _≤_}
+use mathlib.Core.Path.{_≡_, refl, sym, _∙_}
 use native.Mathlib.Omega.{arith}
 use lib.ListN.{length}
-use lib.Seq.{sets, length-sets}
+use lib.Seq.{sets}
 use borrow.Author.Needs.{needs}
 use Rattle.hex.specs.Hex.{textOf, bytesIn}
 use Rattle.hex.proofs.Runs.{byte-turn, byte-end}

@@ -1,6 +1,5 @@
 -- `probabilities::probability_of`: bits above those of infinity are a NaN's.
-use mathlib.Core.Path.{_≡_, refl, sym, _∙_}
-use lib.Ieee as Ieee
+use mathlib.Core.Path.{_∙_}
 use lib.Ieee.{binary64}
 use lib.Ieee.Bits.{nanBits-above}
 use borrow.Author.Tests.{lt-ltb, le-ltb}

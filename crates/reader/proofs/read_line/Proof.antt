@@ -1,13 +1,7 @@
 -- `reader::read_line`: the numbers, the tables, then the line.
-use Prim.Native.Nat.{ℕ, _+_, _-_, _*_}
-use mathlib.Core.Path.{_≡_, refl, sym, ap, _∙_}
-use mathlib.Core.List.{List}
-use native.Mathlib.Omega.{arith}
-use lib.ListN.{length, getD, take, drop, set}
-use lib.Seq.{sets}
-use Rattle.hex.specs.Hex.{bytesOf, number, numbers}
+use Prim.Native.Nat.{_-_, _*_}
+use mathlib.Core.Path.{sym, _∙_}
 use borrow.Author.Tests.{not-true, not-false}
-use Rattle.frames.specs.Counts.{lineOf}
 use Rattle.reader.specs.Columns.{columns}
 use Rattle.reader.proofs.Reading.{storable, over-read, short-read, refused-read, next-read}
 use borrow.Author.Needs.{needs}

@@ -1,13 +1,11 @@
 -- `reader::store`: by the kind.
-use Prim.Native.Nat.{ℕ, _+_, _-_, _*_}
-use mathlib.Core.Path.{_≡_, refl, sym, ap, _∙_}
-use mathlib.Core.List.{List}
+use Prim.Native.Nat.{ℕ, _-_, _*_}
+use mathlib.Core.Path.{refl, sym, ap, _∙_}
 use native.Mathlib.Omega.{arith}
-use lib.ListN.{length, getD, take, drop, set}
+use lib.ListN.{drop}
 use lib.Seq.{sets}
-use Rattle.hex.specs.Hex.{bytesOf, number, numbers}
+use Rattle.hex.specs.Hex.{bytesOf, numbers}
 use borrow.Author.Tests.{eq-eqb}
-use Rattle.frames.specs.Frames.{symptomOf, kindOf}
 use Rattle.frames.proofs.FrameKinds.{frame-2, frame-3, frame-5, frame-6}
 use Rattle.reader.specs.Columns.{columns, storedFrame}
 use Rattle.reader.proofs.Stored.{room-of, columns-eq}

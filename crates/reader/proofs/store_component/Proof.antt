@@ -1,12 +1,11 @@
 -- `reader::store_component`: an entry in each column, and the lists.
 use Prim.Native.Nat.{ℕ, _+_, _-_, _*_}
-use mathlib.Core.Path.{_≡_, refl, sym, ap, _∙_}
+use mathlib.Core.Path.{sym, ap, _∙_}
 use mathlib.Core.List.{List}
 use native.Mathlib.Omega.{arith}
-use lib.ListN.{length, getD, take, drop, set}
+use lib.ListN.{set}
 use lib.Seq.{sets}
-use Rattle.hex.specs.Hex.{bytesOf, number, numbers}
-use Rattle.frames.specs.Frames.{symptomOf}
+use Rattle.hex.specs.Hex.{bytesOf}
 use Rattle.frames.proofs.FrameKinds.{long-is, size-is}
 use Rattle.reader.proofs.Reading.{first-long, second-long, listed-is}
 use borrow.Author.Needs.{needs}
