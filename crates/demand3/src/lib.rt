@@ -11,9 +11,6 @@ ghost use Rattle.demand3.specs.Verified.{Verified};
 // The marker's verdict on the list that the decoder hands over; Stuck and a refusal of the decoder are refusals here. `marked` is the marker's row.
 // Long for its parameters, one a line.
 pub fn decode_and_mark(
-    detectors: usize,
-    observables: usize,
-    edges: usize,
     row: &mut [u64],
     list: &mut [u32],
     adj_offsets: &mut [u32],
@@ -42,6 +39,9 @@ pub fn decode_and_mark(
     marked: &mut [u64],
     marks: &mut [u64],
     wrong: &mut [u64],
+    detectors: usize,
+    observables: usize,
+    edges: usize,
     edge_u: &[u32],
     edge_v: &[u32],
     edge_weight: &[f64],
