@@ -1,7 +1,7 @@
 -- The lists of the appended mechanisms, one after the other.
-use Prim.Native.Nat.{ℕ, zero, suc, _+_, _-_, _<_, _≤_}
+use Prim.Native.Nat.{ℕ, _+_, _-_, _<_, _≤_}
 use native.Mathlib.Omega.{arith}
-use mathlib.Core.Path.{_≡_, refl, sym, ap, ap₂, _∙_}
+use mathlib.Core.Path.{_≡_, sym, ap, ap₂, _∙_}
 use mathlib.Core.List.{List, [], _∷_, _++_, map, map-append, append-assoc, append-nil}
 use lib.ListN.{length, getD, take, drop, take-append-drop, length-append, length-drop}
 use lib.Seq.{take-add, drop-drop, length-take-le}
@@ -10,7 +10,7 @@ use Rattle.lists.proofs.Ranges.{from-append}
 use Rattle.dem.specs.Model.{Symptom}
 use Rattle.dem.specs.Tables.{symptomEntries, written}
 use Rattle.cover.specs.Kept.{symptomAt}
-use Rattle.copies.proofs.Written.{written-paste, length-written}
+use Rattle.copies.proofs.Written.{written-paste}
 use Rattle.decompose.proofs.Grows.{entries-append}
 use Rattle.decomposed.specs.Appended.{listsFrom, Appendable}
 
@@ -105,10 +105,3 @@ module _ (starts ds os es : List ℕ) where
               copied = e ∙ ap₂ (λ (o : List ℕ) (p : List ℕ). take to o ++ (p ++ drop (to + length p) o)) (g .copied) x
                   ∙ written-paste (so-far i) was to part (g .counted) ∙ ap (λ (r : List ℕ). written r was) next;
             }
-
-      pub appending-long : (i to : ℕ) (out : List ℕ) → Appending i to out → length out ≡ length was
-      appending-long i to out g =
-          let e = ap symptomEntries (lists-split k i n (g .low) (g .high)) ∙ entries-append (lists k i) (lists i n) in
-          let m = ap length e ∙ length-append (symptomEntries (lists k i)) (symptomEntries (lists i n)) in
-          ap length (g .copied)
-          ∙ length-written (so-far i) was (omega (arith, m, a .room, length-append (take at was) (symptomEntries (lists k i)), front))

@@ -1,14 +1,13 @@
 -- From the kept mechanisms to the model that they grow to, table by table.
-use Prim.Native.Nat.{ℕ, zero, suc, _+_, _-_, _<_, _≤_}
+use Prim.Native.Nat.{ℕ, _+_, _-_, _<_, _≤_}
 use native.Mathlib.Omega.{arith}
 use mathlib.Core.Path.{_≡_, refl, sym, ap, ap₂, _∙_, subst}
-use mathlib.Core.List.{List, [], _∷_, _++_, map, append-assoc}
-use mathlib.Core.Bool.{true}
-use lib.ListN.{length, getD, take, drop, replicate, length-append, length-replicate, length-take, length-drop, length-map, List·getD-map}
+use mathlib.Core.List.{List, [], _++_, map, append-assoc}
+use lib.ListN.{length, getD, take, drop, replicate, length-append, length-replicate, length-drop, length-map, List·getD-map}
 use lib.Seq.{drop-append-add, drop-append-seam, take-append-seam, drop-drop, length-take-le, ext-getD}
 use lib.Ieee.{Float, nan}
 use borrow.Rule.Slice.PartMut.{putMid}
-use Rattle.lists.proofs.Members.{getD-below, length-below, getD-any}
+use Rattle.lists.proofs.Members.{getD-below, length-below}
 use Rattle.lists.specs.Lists.{from, below}
 use Rattle.codes.specs.declared.Refusal.{Refusal}
 use Rattle.dem.specs.Model.{Symptom, ErrorMechanism}

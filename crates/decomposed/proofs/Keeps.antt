@@ -1,9 +1,9 @@
 -- What adding p and appending keep is kept by decomposition.
 use Prim.Native.Nat.{ℕ, zero, suc, _+_, _<_, _≤_}
 use native.Mathlib.Omega.{arith}
-use mathlib.Core.Path.{_≡_, refl, sym, ap, _∙_, subst}
+use mathlib.Core.Path.{_≡_, refl, sym, _∙_, subst}
 use mathlib.Core.List.{List, [], _∷_, _++_}
-use mathlib.Core.Bool.{Bool, true, false, not, _&&_, _||_}
+use mathlib.Core.Bool.{true, false, not, _&&_}
 use mathlib.Core.Option.{Option, none, some}
 use lib.ListN.{length, getD, length-append, List·getD-append}
 use lib.Seq.{getD-append-seam}
@@ -12,7 +12,6 @@ use lib.Ieee.{Float}
 use borrow.Author.Tests.{leb-true, ltb-true, ltb-false, not-false}
 use Rattle.lists.specs.Lists.{filter, any}
 use Rattle.lists.proofs.Truth.{case-of, and-left, and-right, or-left, or-right}
-use Rattle.codes.specs.declared.Refusal.{Refusal}
 use Rattle.codes.specs.declared.Refusal.the-variants.{Limit, NoCover}
 use Rattle.codes.specs.Limits.{maxMechanisms}
 use Rattle.dem.specs.Model.{Symptom, ErrorMechanism}

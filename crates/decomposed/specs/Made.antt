@@ -4,7 +4,7 @@ use mathlib.Core.Path.{_≡_}
 use mathlib.Core.List.{List, _++_}
 use lib.ListN.{length, take, replicate}
 use Rattle.dem.specs.Model.{ErrorMechanism}
-use Rattle.dem.specs.Tables.{Tables, tablesOf, tablesWritten, symptomEntries, written}
+use Rattle.dem.specs.Tables.{Tables, tablesWritten, symptomEntries, written}
 use Rattle.dem.specs.Decompose.{Split, into, refused}
 use Rattle.suggested.specs.declared.Size.{Size}
 use Rattle.decompose.specs.declared.Counts.{Counts}

@@ -2,7 +2,7 @@
 ghost use mathlib.Core.Path.{_≡_};
 ghost use mathlib.Core.List.{List, _++_};
 ghost use Prim.Native.Nat.{ℕ, _-_, _≤_};
-ghost use lib.ListN.{length, take, replicate};
+ghost use lib.ListN.{length, take};
 ghost use Rattle.dem.specs.Tables.{Tables, modelOf, symptomEntries, tablesWritten, written};
 ghost use Rattle.dem.specs.Positions.{tables};
 ghost use Rattle.dem.specs.Decompose.{keptOf, decompose};

@@ -1,5 +1,5 @@
 -- The answer of the call, and what it leaves.
-use Prim.Native.Nat.{ℕ, _-_, _*_, _<_, _≤_, min}
+use Prim.Native.Nat.{ℕ, _-_, _*_, _≤_, min}
 use native.Mathlib.Omega.{arith}
 use mathlib.Core.Path.{_≡_, refl, sym, ap, _∙_, subst}
 use mathlib.Core.List.{List, [], _∷_}
@@ -28,7 +28,7 @@ use Rattle.decomposed.specs.declared.Decomposed.{Decomposed}
 use Rattle.decomposed.specs.declared.Decomposed.the-variants as decomposed
 use Rattle.decomposed.specs.Call.{roomOf, scratchLong, long, checked, outcome, Decomposes}
 use Rattle.decomposed.specs.Made.{Made}
-use Rattle.decomposed.specs.Started.{Fitting, Decomposable}
+use Rattle.decomposed.specs.Started.{Decomposable}
 use Rattle.graphlike.specs.Lent.{scratchOf, Lent}
 
 -- ---- a model within fewer observables is within their limit

@@ -1,5 +1,5 @@
 -- What the call finds lent, and what it goes on with once all of it is accepted.
-use Prim.Native.Nat.{ℕ, min}
+use Prim.Native.Nat.{ℕ}
 use mathlib.Core.Path.{_≡_}
 use mathlib.Core.List.{List}
 use mathlib.Core.Bool.{true}

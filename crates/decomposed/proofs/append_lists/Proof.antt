@@ -1,14 +1,14 @@
 -- `decomposed::append_lists`: the lists of the mechanisms before k are written.
-use Prim.Native.Nat.{ℕ, _+_, _-_, _≤_}
-use mathlib.Core.Path.{_≡_, refl, sym, ap, _∙_}
-use mathlib.Core.List.{List, _++_}
+use Prim.Native.Nat.{ℕ, _+_, _-_}
+use mathlib.Core.Path.{_≡_, refl, ap, _∙_}
+use mathlib.Core.List.{_++_}
 use native.Mathlib.Omega.{arith}
 use native.Mathlib.Nat.{add-sub-cancel-left}
 use lib.ListN.{length, getD, take, drop}
 use borrow.Author.Needs.{needs}
 use Rattle.dem.specs.Tables.{symptomEntries, written}
-use Rattle.decomposed.specs.Appended.{listsFrom, Appendable}
-use Rattle.decomposed.proofs.Appending.{Appending, appending-none, part-long, part-fits, appending-next, appending-long}
+use Rattle.decomposed.specs.Appended.{listsFrom}
+use Rattle.decomposed.proofs.Appending.{Appending, appending-none, part-long, part-fits, appending-next}
 use Rattle.decomposed.proofs.append_lists.Statement.{statement}
 use Rattle.decomposed.proofs.append_lists.Tie as tie
 

@@ -1,10 +1,8 @@
 -- `decomposed::decompose_checked`: splitting begins where copying ends.
-use Prim.Native.Nat.{ℕ, _*_, _≤_}
-use mathlib.Core.Path.{_≡_, sym, _∙_}
+use mathlib.Core.Path.{sym, _∙_}
 use native.Mathlib.Omega.{arith}
 use lib.ListN.{length}
 use Rattle.dem.specs.Positions.{tables}
-use Rattle.decomposed.specs.Started.{Startable, Decomposable}
 use Rattle.decomposed.proofs.Starting.{roomy, begun}
 use borrow.Author.Needs.{needs}
 use Rattle.decomposed.proofs.decompose_checked.Statement.{statement}

@@ -1,7 +1,5 @@
 -- `decomposed::finish`: a part that was zeroed, and the lists after those of the kept mechanisms.
-use mathlib.Core.Path.{_≡_, refl, sym, ap, _∙_}
-use native.Mathlib.Omega.{arith}
-use Rattle.decomposed.specs.Made.{Finished}
+use mathlib.Core.Path.{refl}
 use Rattle.decomposed.proofs.Growing.{zero-part}
 use borrow.Author.Needs.{needs}
 use Rattle.decomposed.proofs.finish.Statement.{statement}

@@ -1,10 +1,8 @@
 -- `decomposed::start`: the kept mechanisms as they were copied, then both kinds of chains.
-use mathlib.Core.Path.{_≡_, refl}
+use mathlib.Core.Path.{refl}
 use native.Mathlib.Omega.{arith}
 use lib.ListN.{length}
 use Rattle.dem.specs.Positions.{tables}
-use Rattle.decompose.specs.Begun.{Copyable}
-use Rattle.decomposed.specs.Started.{Startable, Started}
 use Rattle.decomposed.proofs.Starting.{small, kept-few, kept-tabled}
 use borrow.Author.Needs.{needs}
 use Rattle.decomposed.proofs.start.Statement.{statement}

@@ -1,5 +1,5 @@
 -- `graphlike::check`: the limits, the model's tables, the other slices, the mechanisms.
-use mathlib.Core.Path.{_≡_, refl, sym, ap, _∙_}
+use mathlib.Core.Path.{refl, sym, ap, _∙_}
 use mathlib.Core.Bool.{true, false, _&&_}
 use borrow.Author.Tests.{not-true, not-false}
 use Rattle.codes.specs.declared.Refusal.the-variants.{Short}

@@ -1,8 +1,7 @@
 -- `graphlike::decompose_accepted`: a refusal leaves zero, a model its tables.
-use Prim.Native.Nat.{ℕ, _-_}
-use mathlib.Core.Path.{_≡_, refl, _∙_}
+use Prim.Native.Nat.{_-_}
+use mathlib.Core.Path.{refl, _∙_}
 use native.Mathlib.Omega.{arith}
-use lib.ListN.{length}
 use borrow.Rule.Slice.PartMut.{same-len-mid}
 use Rattle.dem.specs.Tables.{modelOf}
 use Rattle.dem.specs.Positions.{tables}

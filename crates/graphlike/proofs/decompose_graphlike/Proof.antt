@@ -1,5 +1,5 @@
 -- `graphlike::decompose_graphlike`: a refused check leaves zero; what was accepted is decomposed.
-use mathlib.Core.Path.{_≡_, sym, _∙_}
+use mathlib.Core.Path.{sym, _∙_}
 use Rattle.dem.specs.Positions.{tables}
 use Rattle.graphlike.specs.Lent.{scratchOf}
 use Rattle.graphlike.proofs.Answers.{lent, check-refused, check-accepted}

@@ -1,5 +1,4 @@
 -- `graphlike::output_long`: each test in turn.
-use mathlib.Core.Path.{_≡_, refl}
 use Rattle.dem.specs.Tables.{columnsHold, listsHold}
 use Rattle.dem.specs.Positions.{tables}
 use Rattle.graphlike.proofs.Answers.{both, not-first}
