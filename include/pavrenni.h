@@ -254,22 +254,22 @@ struct pavrenni_graph pavrenni_compile(
  * which the answer has the length. Scratch: pavrenni_lengths_for(D, E). Refused in this order: 1, 2, then 5 and 4 by
  * edge, 8, 9, 10, 11; then row and list are untouched. */
 struct pavrenni_shot pavrenni_decode_shot(
-    PAVRENNI_GRAPH,
-    const uint64_t *shot, size_t shot_len,
-    size_t width,
     uint64_t *row, size_t row_len,
     uint32_t *list, size_t list_len,
-    PAVRENNI_SCRATCH);
+    PAVRENNI_SCRATCH,
+    PAVRENNI_GRAPH,
+    const uint64_t *shot, size_t shot_len,
+    size_t width);
 
 /* Shots of width D: a row of words(O) a shot into `out`. The list (D entries) is scratch here. Refused as one shot is; by
  * 11 the earlier rows are done, this row is zero, later ones are untouched, by the others all are. */
 struct pavrenni_batch pavrenni_decode_batch(
-    PAVRENNI_GRAPH,
-    const uint64_t *rows, size_t rows_len,
-    size_t shots, size_t width,
     uint64_t *out, size_t out_len,
     uint32_t *list, size_t list_len,
-    PAVRENNI_SCRATCH);
+    PAVRENNI_SCRATCH,
+    PAVRENNI_GRAPH,
+    const uint64_t *rows, size_t rows_len,
+    size_t shots, size_t width);
 
 /* Marks a list, of any length, of edge numbers against a shot of width D. It passes if its edges flip exactly the lit
  * detectors; then the XOR of their observables is written to the row (words(O)), else the row is untouched. Scratch:
@@ -287,14 +287,14 @@ struct pavrenni_mark pavrenni_mark(
  * there are no shots or no observables. The predicted rows are left in `out`, as by a batch. Refused in this order: 1, 2,
  * then 5 and 4 by edge, 8 and 9 of the shots, 8 and 9 of the true observables, 10, 11, and 12 with the rows done. */
 struct pavrenni_rate pavrenni_rate(
+    uint64_t *out, size_t out_len,
+    uint32_t *list, size_t list_len,
+    PAVRENNI_SCRATCH,
     PAVRENNI_GRAPH,
     const uint64_t *rows, size_t rows_len,
     size_t shots, size_t width,
     const uint64_t *truth, size_t truth_len,
-    size_t true_shots, size_t true_width,
-    uint64_t *out, size_t out_len,
-    uint32_t *list, size_t list_len,
-    PAVRENNI_SCRATCH);
+    size_t true_shots, size_t true_width);
 
 #ifdef __cplusplus
 }

@@ -185,62 +185,75 @@ macro_rules! on_graph {
     }};
 }
 
-/// A call on a lent graph that decodes: the scratch slices come last.
+/// A call on a lent graph that decodes: what is written and the scratch slices come first, then the graph and what is read.
 macro_rules! decoding {
-    ($call:ident, $graph:expr, $edges:expr, $scratch:expr, $($own:expr),* $(,)?) => {{
+    ($call:ident, $graph:expr, $edges:expr, $scratch:expr, $($own:expr),*; $($read:expr),* $(,)?) => {{
+        let (graph, edges): (&Graph, usize) = ($graph, $edges);
         let s: &mut Scratch = $scratch;
-        on_graph!(
-            $call,
-            $graph,
-            $edges,
-            $($own,)*
-            s.adj_offsets.as_mut_ptr(),
-            s.adj_offsets.len(),
-            s.adj_edge.as_mut_ptr(),
-            s.adj_edge.len(),
-            s.adj_far.as_mut_ptr(),
-            s.adj_far.len(),
-            s.defects.as_mut_ptr(),
-            s.defects.len(),
-            s.seen.as_mut_ptr(),
-            s.seen.len(),
-            s.active.as_mut_ptr(),
-            s.active.len(),
-            s.front.as_mut_ptr(),
-            s.front.len(),
-            s.touched.as_mut_ptr(),
-            s.touched.len(),
-            s.cnt.as_mut_ptr(),
-            s.cnt.len(),
-            s.fresh.as_mut_ptr(),
-            s.fresh.len(),
-            s.order_edge.as_mut_ptr(),
-            s.order_edge.len(),
-            s.order_parent.as_mut_ptr(),
-            s.order_parent.len(),
-            s.lit.as_mut_ptr(),
-            s.lit.len(),
-            s.growth.as_mut_ptr(),
-            s.growth.len(),
-            s.sat.as_mut_ptr(),
-            s.sat.len(),
-            s.known.as_mut_ptr(),
-            s.known.len(),
-            s.parent.as_mut_ptr(),
-            s.parent.len(),
-            s.odd.as_mut_ptr(),
-            s.odd.len(),
-            s.boundary_edge.as_mut_ptr(),
-            s.boundary_edge.len(),
-            s.hot.as_mut_ptr(),
-            s.hot.len(),
-            s.free.as_mut_ptr(),
-            s.free.len(),
-            s.live.as_mut_ptr(),
-            s.live.len(),
-            s.bits.as_mut_ptr(),
-            s.bits.len(),
-        )
+        // SAFETY: every pointer comes from a borrowed slice or vector and crosses with its length.
+        unsafe {
+            sys::$call(
+                $($own,)*
+                s.adj_offsets.as_mut_ptr(),
+                s.adj_offsets.len(),
+                s.adj_edge.as_mut_ptr(),
+                s.adj_edge.len(),
+                s.adj_far.as_mut_ptr(),
+                s.adj_far.len(),
+                s.defects.as_mut_ptr(),
+                s.defects.len(),
+                s.seen.as_mut_ptr(),
+                s.seen.len(),
+                s.active.as_mut_ptr(),
+                s.active.len(),
+                s.front.as_mut_ptr(),
+                s.front.len(),
+                s.touched.as_mut_ptr(),
+                s.touched.len(),
+                s.cnt.as_mut_ptr(),
+                s.cnt.len(),
+                s.fresh.as_mut_ptr(),
+                s.fresh.len(),
+                s.order_edge.as_mut_ptr(),
+                s.order_edge.len(),
+                s.order_parent.as_mut_ptr(),
+                s.order_parent.len(),
+                s.lit.as_mut_ptr(),
+                s.lit.len(),
+                s.growth.as_mut_ptr(),
+                s.growth.len(),
+                s.sat.as_mut_ptr(),
+                s.sat.len(),
+                s.known.as_mut_ptr(),
+                s.known.len(),
+                s.parent.as_mut_ptr(),
+                s.parent.len(),
+                s.odd.as_mut_ptr(),
+                s.odd.len(),
+                s.boundary_edge.as_mut_ptr(),
+                s.boundary_edge.len(),
+                s.hot.as_mut_ptr(),
+                s.hot.len(),
+                s.free.as_mut_ptr(),
+                s.free.len(),
+                s.live.as_mut_ptr(),
+                s.live.len(),
+                s.bits.as_mut_ptr(),
+                s.bits.len(),
+                graph.detectors,
+                graph.observables,
+                edges,
+                graph.edge_u.as_ptr(),
+                graph.edge_u.len(),
+                graph.edge_v.as_ptr(),
+                graph.edge_v.len(),
+                graph.edge_weight.as_ptr(),
+                graph.edge_weight.len(),
+                graph.edge_obs.as_ptr(),
+                graph.edge_obs.len(),
+                $($read),*
+            )
+        }
     }};
 }
 
@@ -325,13 +338,13 @@ pub fn decode_shot(
         graph,
         edges,
         scratch,
-        shot.as_ptr(),
-        shot.len(),
-        width,
         row.as_mut_ptr(),
         row.len(),
         list.as_mut_ptr(),
-        list.len(),
+        list.len();
+        shot.as_ptr(),
+        shot.len(),
+        width,
     )
 }
 
@@ -342,14 +355,14 @@ pub fn decode_batch(graph: &Graph, edges: usize, shots: Packed, out: &mut [u64],
         graph,
         edges,
         scratch,
+        out.as_mut_ptr(),
+        out.len(),
+        list.as_mut_ptr(),
+        list.len();
         shots.words.as_ptr(),
         shots.words.len(),
         shots.shots,
         shots.width,
-        out.as_mut_ptr(),
-        out.len(),
-        list.as_mut_ptr(),
-        list.len(),
     )
 }
 
@@ -396,6 +409,10 @@ pub fn rate(
         graph,
         edges,
         scratch,
+        out.as_mut_ptr(),
+        out.len(),
+        list.as_mut_ptr(),
+        list.len();
         shots.words.as_ptr(),
         shots.words.len(),
         shots.shots,
@@ -404,9 +421,5 @@ pub fn rate(
         truth.words.len(),
         truth.shots,
         truth.width,
-        out.as_mut_ptr(),
-        out.len(),
-        list.as_mut_ptr(),
-        list.len(),
     )
 }

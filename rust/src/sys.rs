@@ -194,56 +194,70 @@ macro_rules! on_graph {
 
 /// A call on a lent graph that decodes: the scratch slices come last.
 macro_rules! decoding {
-    ($name:ident($($own:ident: $kind:ty),* $(,)?) -> $answer:ty) => {
-        on_graph!($name(
-            $($own: $kind,)*
-            adj_offsets: *mut u32,
-            adj_offsets_len: usize,
-            adj_edge: *mut u32,
-            adj_edge_len: usize,
-            adj_far: *mut u32,
-            adj_far_len: usize,
-            defects: *mut u32,
-            defects_len: usize,
-            seen: *mut u32,
-            seen_len: usize,
-            active: *mut u32,
-            active_len: usize,
-            front: *mut u32,
-            front_len: usize,
-            touched: *mut u32,
-            touched_len: usize,
-            cnt: *mut u8,
-            cnt_len: usize,
-            fresh: *mut u32,
-            fresh_len: usize,
-            order_edge: *mut u32,
-            order_edge_len: usize,
-            order_parent: *mut u32,
-            order_parent_len: usize,
-            lit: *mut bool,
-            lit_len: usize,
-            growth: *mut f64,
-            growth_len: usize,
-            sat: *mut bool,
-            sat_len: usize,
-            known: *mut bool,
-            known_len: usize,
-            parent: *mut u32,
-            parent_len: usize,
-            odd: *mut bool,
-            odd_len: usize,
-            boundary_edge: *mut u32,
-            boundary_edge_len: usize,
-            hot: *mut bool,
-            hot_len: usize,
-            free: *mut bool,
-            free_len: usize,
-            live: *mut bool,
-            live_len: usize,
-            bits: *mut u64,
-            bits_len: usize,
-        ) -> $answer);
+    ($name:ident($($own:ident: $kind:ty),* $(,)?; $($read:ident: $given:ty),* $(,)?) -> $answer:ty) => {
+        extern "C" {
+            pub fn $name(
+                $($own: $kind,)*
+                adj_offsets: *mut u32,
+                adj_offsets_len: usize,
+                adj_edge: *mut u32,
+                adj_edge_len: usize,
+                adj_far: *mut u32,
+                adj_far_len: usize,
+                defects: *mut u32,
+                defects_len: usize,
+                seen: *mut u32,
+                seen_len: usize,
+                active: *mut u32,
+                active_len: usize,
+                front: *mut u32,
+                front_len: usize,
+                touched: *mut u32,
+                touched_len: usize,
+                cnt: *mut u8,
+                cnt_len: usize,
+                fresh: *mut u32,
+                fresh_len: usize,
+                order_edge: *mut u32,
+                order_edge_len: usize,
+                order_parent: *mut u32,
+                order_parent_len: usize,
+                lit: *mut bool,
+                lit_len: usize,
+                growth: *mut f64,
+                growth_len: usize,
+                sat: *mut bool,
+                sat_len: usize,
+                known: *mut bool,
+                known_len: usize,
+                parent: *mut u32,
+                parent_len: usize,
+                odd: *mut bool,
+                odd_len: usize,
+                boundary_edge: *mut u32,
+                boundary_edge_len: usize,
+                hot: *mut bool,
+                hot_len: usize,
+                free: *mut bool,
+                free_len: usize,
+                live: *mut bool,
+                live_len: usize,
+                bits: *mut u64,
+                bits_len: usize,
+                detectors: usize,
+                observables: usize,
+                edges: usize,
+                edge_u: *const u32,
+                edge_u_len: usize,
+                edge_v: *const u32,
+                edge_v_len: usize,
+                edge_weight: *const f64,
+                edge_weight_len: usize,
+                edge_obs: *const u64,
+                edge_obs_len: usize,
+                $($read: $given),*
+            ) -> $answer;
+        }
     };
 }
 
@@ -302,24 +316,26 @@ on_model!(pavrenni_compile(
 ) -> Graph);
 
 decoding!(pavrenni_decode_shot(
-    shot: *const u64,
-    shot_len: usize,
-    width: usize,
     row: *mut u64,
     row_len: usize,
     list: *mut u32,
     list_len: usize,
+    ;
+    shot: *const u64,
+    shot_len: usize,
+    width: usize,
 ) -> Shot);
 
 decoding!(pavrenni_decode_batch(
-    rows: *const u64,
-    rows_len: usize,
-    shots: usize,
-    width: usize,
     out: *mut u64,
     out_len: usize,
     list: *mut u32,
     list_len: usize,
+    ;
+    rows: *const u64,
+    rows_len: usize,
+    shots: usize,
+    width: usize,
 ) -> Batch);
 
 on_graph!(pavrenni_mark(
@@ -337,6 +353,11 @@ on_graph!(pavrenni_mark(
 ) -> Mark);
 
 decoding!(pavrenni_rate(
+    out: *mut u64,
+    out_len: usize,
+    list: *mut u32,
+    list_len: usize,
+    ;
     rows: *const u64,
     rows_len: usize,
     shots: usize,
@@ -345,8 +366,4 @@ decoding!(pavrenni_rate(
     truth_len: usize,
     true_shots: usize,
     true_width: usize,
-    out: *mut u64,
-    out_len: usize,
-    list: *mut u32,
-    list_len: usize,
 ) -> Rate);

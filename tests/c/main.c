@@ -125,7 +125,7 @@ static struct pavrenni_shot decode_shot(const struct graph *graph, uint64_t shot
     s.lengths = pavrenni_lengths_for(graph->detectors, graph->edges);
     DECODER_SLICES(TAKE)
     struct pavrenni_shot answer =
-        pavrenni_decode_shot(GRAPH(graph), &shot, 1, width, row, 1, list, 2 DECODER_SLICES(LENT));
+        pavrenni_decode_shot(row, 1, list, 2 DECODER_SLICES(LENT), GRAPH(graph), &shot, 1, width);
     DECODER_SLICES(GIVE_BACK)
     return answer;
 }
@@ -137,7 +137,7 @@ static struct pavrenni_batch decode_batch(const struct graph *graph, const uint6
     s.lengths = pavrenni_lengths_for(graph->detectors, graph->edges);
     DECODER_SLICES(TAKE)
     struct pavrenni_batch answer =
-        pavrenni_decode_batch(GRAPH(graph), rows, 4, shots, 2, out, 4, list, 2 DECODER_SLICES(LENT));
+        pavrenni_decode_batch(out, 4, list, 2 DECODER_SLICES(LENT), GRAPH(graph), rows, 4, shots, 2);
     DECODER_SLICES(GIVE_BACK)
     return answer;
 }
@@ -160,7 +160,7 @@ static struct pavrenni_rate rate(
     s.lengths = pavrenni_lengths_for(graph->detectors, graph->edges);
     DECODER_SLICES(TAKE)
     struct pavrenni_rate answer =
-        pavrenni_rate(GRAPH(graph), rows, 4, 4, 2, truth, 4, 4, true_width, out, 4, list, 2 DECODER_SLICES(LENT));
+        pavrenni_rate(out, 4, list, 2 DECODER_SLICES(LENT), GRAPH(graph), rows, 4, 4, 2, truth, 4, 4, true_width);
     DECODER_SLICES(GIVE_BACK)
     return answer;
 }
