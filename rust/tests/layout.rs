@@ -96,18 +96,19 @@ fn in_header(call: &str) -> Vec<Parameter> {
     parameters(between(&header, &format!(" {call}("), ");"), parameter_in_c, &group)
 }
 
-/// The parameters that `sys` gives a call: those of its macros, then its own, then the scratch slices if it decodes.
+/// The parameters that `sys` gives a call: those of its macro, then its own; a call that decodes has what it writes, its macro's, then what it reads.
 fn in_sys(call: &str) -> Vec<Parameter> {
     let read = |text: &str| parameters(text, parameter_in_rust, &|_| None);
     if let Some(at) = DECLARED.find(&format!("pub fn {call}(")) {
         return read(between(&DECLARED[at..], "(", ")"));
     }
-    let own = read(between(DECLARED, &format!("!({call}("), ") ->"));
-    let shared = |name: &str| read(between(between(DECLARED, &format!("macro_rules! {name} {{"), "-> $answer;"), "pub fn $name(", "$("));
-    let before = |macro_name: &str| DECLARED.contains(&format!("{macro_name}!({call}("));
-    let first = if before("on_model") { shared("on_model") } else { shared("on_graph") };
-    let last = if before("decoding") { read(between(DECLARED, "$($own: $kind,)*", ") ->")) } else { vec![] };
-    [first, own, last].concat()
+    let own = between(DECLARED, &format!("!({call}("), ") ->");
+    let shared = |name: &str, from: &str| read(between(between(DECLARED, &format!("macro_rules! {name} {{"), "-> $answer;"), from, "$("));
+    if let Some((written, given)) = own.split_once(';') {
+        return [read(written), shared("decoding", "$($own: $kind,)*"), read(given)].concat();
+    }
+    let name = if DECLARED.contains(&format!("on_model!({call}(")) { "on_model" } else { "on_graph" };
+    [shared(name, "pub fn $name("), read(own)].concat()
 }
 
 #[test]
