@@ -1,3 +1,2 @@
 pub mod Marker
 pub mod Decoder
-pub mod Verified
