@@ -19,7 +19,7 @@ fn check_rows(detectors: usize, rows: &[u64], shots: usize, width: usize) -> Che
     Checked::Accepted
 }
 
-// 1, 2 (the tables, and whether the call's own slices are long enough), the graph, then 8, 9, 10.
+// 1, 2 (the tables, and whether the call's own slices are long enough), the graph, then 8, 9, 10. Long for its parameters, one a line.
 pub fn check_call(
     detectors: usize,
     observables: usize,

@@ -54,7 +54,7 @@ pub fn clean_edges(adj_edge: &[u32], start: usize, end: usize, growth: &mut [f64
     }
 }
 
-// The n detectors seen and their edges are at rest.
+// The n detectors seen and their edges are at rest. Long for its parameters, one a line.
 pub fn clean(
     d: usize,
     edge_u: &[u32],

@@ -115,7 +115,7 @@ pub fn copy_components(
     at
 }
 
-// The entries of the kept mechanisms; starts has where each begins in the tables given.
+// The entries of the kept mechanisms; starts has where each begins in the tables given. Long for its parameters, one a line.
 pub fn copy_entries(
     mechanisms: usize,
     probability: &[f64],

@@ -33,7 +33,7 @@ fn tries(before: u32, m: u16, c: u16) -> bool
     before == 0 && fits_in(m, c)
 }
 
-// The first cover of the mask and the words by the candidates from start on that have no earlier equal, written from depth on.
+// The first cover of the mask and the words by the candidates from start on that have no earlier equal, written from depth on. Long for its parameters, one a line.
 fn find_cover(
     numbers: &[u32],
     masks: &[u16],
@@ -343,7 +343,7 @@ fn mark_earlier(masks: &[u16], words0: &[u64], words1: &[u64], earlier: &mut [u3
 
 // ---- the first cover
 
-// The candidates for a cover of ds, each with its words and its earlier equal.
+// The candidates for a cover of ds, each with its words and its earlier equal. Long for its parameters, one a line.
 fn compact(
     starts: &[u32],
     detector_counts: &[u8],
@@ -386,7 +386,7 @@ fn compact(
     count
 }
 
-// The first cover of a mechanism by the kept mechanisms, its members at the front of chosen.
+// The first cover of a mechanism by the kept mechanisms, its members at the front of chosen. Long for its parameters, one a line.
 pub fn partition_cover(
     starts: &[u32],
     detector_counts: &[u8],

@@ -100,7 +100,7 @@ fn answer_of(shot: Shot) -> Answer
     }
 }
 
-// The edges at each detector, where the call is accepted so far: its own slices but for these are tested later.
+// The edges at each detector, where the call is accepted so far: its own slices but for these are tested later. Long for its parameters, one a line.
 fn tabulate(
     detectors: usize,
     observables: usize,
@@ -148,7 +148,7 @@ fn tabulate(
     );
 }
 
-// The other slices tested, the call checked, and its shot decoded.
+// The other slices tested, the call checked, and its shot decoded. Long for its parameters, one a line.
 fn decode_checked(
     row: &mut [u64],
     list: &mut [u32],
@@ -264,7 +264,7 @@ fn decode_checked(
     answer_of(found)
 }
 
-// The tables that are put to rest tested by their lengths, then the call as before: the checker takes no more in one function.
+// The tables that are put to rest tested by their lengths, then the call as before: the checker takes no more in one function. Long for its parameters, one a line.
 fn decode_tabled(
     row: &mut [u64],
     list: &mut [u32],
@@ -358,7 +358,7 @@ fn decode_tabled(
     )
 }
 
-// The slices that the call writes stand first, and each function below it takes one step: with one more the checker does not come to an end. One parameter a line makes them long.
+// The slices that the call writes stand first, and each function below it takes one step: with one more the checker does not come to an end. Long for its parameters, one a line.
 pub fn decode_shot(
     detectors: usize,
     observables: usize,

@@ -20,7 +20,7 @@ pub struct Counts {
     pub entries: usize,
 }
 
-// Those with 0 to 2 detectors are kept in order, with their components.
+// Those with 0 to 2 detectors are kept in order, with their components. Long for its parameters, one a line.
 pub fn copy_kept(
     mechanisms: usize,
     probability: &[f64],
@@ -120,7 +120,7 @@ pub fn zero_tables(
     copies::zero_words(entries);
 }
 
-// Each larger mechanism, in order.
+// Each larger mechanism, in order. Long for its parameters, one a line.
 pub fn split_all(
     mechanisms: usize,
     kept: usize,

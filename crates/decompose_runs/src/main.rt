@@ -74,7 +74,7 @@ fn words(name: &[u8], table: &[u32]) {
     io::write_all(STDOUT_FILENO, b"\n");
 }
 
-// A model without observables, decomposed into so many places for mechanisms.
+// A model without observables, decomposed into so many places for mechanisms. Long for its cases, one after the other.
 fn run(
     case: &[u8],
     detectors: usize,
@@ -143,6 +143,7 @@ fn run(
     words(b"\n  entries", &out_entries);
 }
 
+// Long for its cases, one after the other.
 fn main() {
     let ascending: [u32; 32] = [
         0,

@@ -98,7 +98,7 @@ fn finish(
     })
 }
 
-// Each larger mechanism is split over the kept ones, and what was appended is written.
+// Each larger mechanism is split over the kept ones, and what was appended is written. Long for its parameters, one a line.
 fn split_kept(
     mechanisms: usize,
     kept: Counts,
@@ -176,7 +176,7 @@ fn split_kept(
 
 // ---- a checked model
 
-// The kept mechanisms are copied, and linked by their first detectors.
+// The kept mechanisms are copied, and linked by their first detectors. Long for its parameters, one a line.
 fn start(
     mechanisms: usize,
     probability: &[f64],
@@ -239,7 +239,7 @@ fn start(
     kept
 }
 
-// The model is decomposed into the output tables; a refusal leaves them as they are by then.
+// The model is decomposed into the output tables; a refusal leaves them as they are by then. Long for its parameters, one a line.
 pub fn decompose_checked(
     mechanisms: usize,
     room: Size,

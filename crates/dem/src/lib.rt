@@ -282,7 +282,7 @@ pub fn totals(
     }
 }
 
-// The tables hold the mechanisms that their counts tell of, or 2.
+// The tables hold the mechanisms that their counts tell of, or 2. Long for its parameters, one a line.
 pub fn check_tables(
     mechanisms: usize,
     probability: &[f64],
@@ -328,7 +328,7 @@ pub fn check_tables(
 
 // ---- the check of a model
 
-// Each mechanism of tables that hold them, in order.
+// Each mechanism of tables that hold them, in order. Long for its parameters, one a line.
 pub fn check_mechanisms(
     detectors: usize,
     observables: usize,
@@ -376,7 +376,7 @@ pub fn check_mechanisms(
     Checked::Accepted
 }
 
-// The limits (1), the tables (2), then each mechanism in order.
+// The limits (1), the tables (2), then each mechanism in order. Long for its parameters, one a line.
 pub fn check_model(
     detectors: usize,
     observables: usize,

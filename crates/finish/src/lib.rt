@@ -4,7 +4,7 @@ ghost use Rattle.walks.specs.Walks.{Tabled};
 ghost use Rattle.peeling.specs.Tables.{Grown, Lit, Same};
 ghost use Rattle.finish.specs.Finish.{Settles, Finished};
 
-// Peels all clusters, puts the observables of the list into out_row, and leaves no mark in met. Returns the length of the list.
+// Peels all clusters, puts the observables of the list into out_row, and leaves no mark in met. Returns the length of the list. Long for its parameters, one a line.
 pub fn finish(
     d: usize,
     edge_u: &[u32],

@@ -140,7 +140,7 @@ fn write_edge(
     write_row(observables, list, &mut edge_obs[from..to]);
 }
 
-// Mechanisms with the same detectors share one edge: only a strictly greater probability replaces probability and observables. Returns the number of edges.
+// Mechanisms with the same detectors share one edge: only a strictly greater probability replaces probability and observables. Returns the number of edges. Long for its parameters, one a line.
 fn share(
     u: u32,
     v: u32,
@@ -212,7 +212,7 @@ fn second_end(d: usize, at: usize, entries: &[u32]) -> u32
     entries[at + 1]
 }
 
-// One mechanism: lists (5), probability (4); zero or no detectors: skipped; over two detectors (7).
+// One mechanism: lists (5), probability (4); zero or no detectors: skipped; over two detectors (7). Long for its parameters, one a line.
 fn join(
     i: usize,
     head: Mechanism,
@@ -281,7 +281,7 @@ fn join(
     Compiled::Edges(n)
 }
 
-// Per mechanism in order, in tables that are long enough.
+// Per mechanism in order, in tables that are long enough. Long for its parameters, one a line.
 fn join_all(
     detectors: usize,
     observables: usize,
@@ -367,7 +367,7 @@ fn scratch_long(
     mechanisms <= next
 }
 
-// The limits (1), then every slice (2).
+// The limits (1), then every slice (2). Long for its parameters, one a line.
 fn check_slices(
     detectors: usize,
     observables: usize,
@@ -439,7 +439,7 @@ fn refuse(
     Compiled::Refused(r)
 }
 
-// The edge graph of a model. `edge_p`, `first` and `next` are scratch: any contents, and any are left.
+// The edge graph of a model. `edge_p`, `first` and `next` are scratch: any contents, and any are left. Long for its parameters, one a line.
 pub fn from_model(
     detectors: usize,
     observables: usize,

@@ -96,7 +96,7 @@ fn scratch_long(detectors: usize, mechanisms: usize, s: Scratch) -> bool
 
 // ---- the check
 
-// The limits (1), all lengths (2), then all mechanisms in order.
+// The limits (1), all lengths (2), then all mechanisms in order. Long for its parameters, one a line.
 fn check(
     detectors: usize,
     observables: usize,
@@ -201,7 +201,7 @@ fn refuse(
     Decomposed::Refused(r)
 }
 
-// An accepted model.
+// An accepted model. Long for its parameters, one a line.
 fn decompose_accepted(
     detectors: usize,
     mechanisms: usize,
@@ -282,7 +282,7 @@ fn decompose_accepted(
     made
 }
 
-// The model with only mechanisms of at most two detectors. The last ten slices are scratch: any contents, and any are left.
+// The model with only mechanisms of at most two detectors. The last ten slices are scratch: any contents, and any are left. Long for its parameters, one a line.
 pub fn decompose_graphlike(
     detectors: usize,
     observables: usize,

@@ -19,7 +19,7 @@ pub struct Grown {
     pub active: usize,
 }
 
-// Rounds until no cluster is active or one is stuck.
+// Rounds until no cluster is active or one is stuck. Long for its parameters, one a line.
 pub fn grow_clusters(
     d: usize,
     edge_u: &[u32],

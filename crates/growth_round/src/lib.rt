@@ -7,7 +7,7 @@ ghost use Rattle.adjacency.specs.Adjacent.{weighted};
 ghost use Rattle.growth_state.specs.Rep.{stateOf, Rep};
 ghost use Rattle.growth_round.specs.Round.{Space, Touching, Touched, Settling, Settled, Stepped};
 
-// Step 1: lists the counted edges, ascending, and the count of each; frees the active clusters that have an open edge.
+// Step 1: lists the counted edges, ascending, and the count of each; frees the active clusters that have an open edge. Long for its parameters, one a line.
 pub fn touch(
     d: usize,
     edge_u: &[u32],
@@ -59,7 +59,7 @@ pub fn touch(
     m
 }
 
-// Steps 2 and 3: the least step, growth by it, and what saturates.
+// Steps 2 and 3: the least step, growth by it, and what saturates. Long for its parameters, one a line.
 pub fn settle(
     d: usize,
     edge_u: &[u32],
@@ -114,7 +114,7 @@ pub struct Step {
     pub active: usize,
 }
 
-// One round. Where a cluster is stuck, nothing grows.
+// One round. Where a cluster is stuck, nothing grows. Long for its parameters, one a line.
 pub fn round(
     d: usize,
     edge_u: &[u32],

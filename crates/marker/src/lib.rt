@@ -26,7 +26,7 @@ fn long(
     bits::words(detectors) <= wrong.len()
 }
 
-// 1, 2, the graph, 8, 9, 10, then 13, Pass or Differs.
+// 1, 2, the graph, 8, 9, 10, then 13, Pass or Differs. Long for its parameters, one a line.
 pub fn mark(
     detectors: usize,
     observables: usize,

@@ -7,7 +7,7 @@ ghost use Rattle.steps.specs.Call.{graphOf, litOf, listLeft};
 ghost use Rattle.shot_answer.specs.Shots.{Tables, Places, Given, graphIn, decodeIn, shotOf};
 ghost use Rattle.parts.specs.Wide.{Wide, Spaces};
 
-// The shot decoded over the entries of the tables of clusters that the counts need. The checker takes no more parts of slices in one function, so those of growth are taken in another.
+// The shot decoded over the entries of the tables of clusters that the counts need. The checker takes no more parts of slices in one function, so those of growth are taken in another. Long for its parameters, one a line.
 fn decode_cluster_parts(
     detectors: usize,
     observables: usize,
@@ -89,7 +89,7 @@ fn decode_cluster_parts(
     )
 }
 
-// The shot decoded over the entries of the tables of growth that the counts need.
+// The shot decoded over the entries of the tables of growth that the counts need. Long for its parameters, one a line.
 fn decode_growth_parts(
     detectors: usize,
     observables: usize,
@@ -169,7 +169,7 @@ fn decode_growth_parts(
     )
 }
 
-// The shot decoded over the entries of the graph's tables that its edges need, then over those of the other tables.
+// The shot decoded over the entries of the graph's tables that its edges need, then over those of the other tables. Long for its parameters, one a line.
 pub fn decode_parts(
     detectors: usize,
     observables: usize,

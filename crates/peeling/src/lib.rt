@@ -66,7 +66,7 @@ fn close(e: u32, s: u32, lit: &mut [bool], list: &mut [u32], listed: usize) -> u
     listed
 }
 
-// Peels the cluster of x, which is not met. Returns the length of the list.
+// Peels the cluster of x, which is not met. Returns the length of the list. Long for its parameters, one a line.
 fn peel_cluster(
     d: usize,
     edge_u: &[u32],
@@ -116,7 +116,7 @@ fn peel_cluster(
     close(e, s, lit, list, at)
 }
 
-// Peels all clusters that hold a lit detector, in the order of their first. Returns the length of the list.
+// Peels all clusters that hold a lit detector, in the order of their first. Returns the length of the list. Long for its parameters, one a line.
 pub fn peel_all(
     d: usize,
     edge_u: &[u32],

@@ -87,7 +87,7 @@ fn store_component(
     hex::read_u16s(line, 3, size, entries, at);
 }
 
-// A line that was answered by numbers: its frame into the tables. Long for the nine tables that each call names.
+// A line that was answered by numbers: its frame into the tables. Long for the nine tables that each call names. Long for its parameters, one a line.
 fn store(
     line: &[u8],
     n: State,
@@ -182,7 +182,7 @@ fn long_enough(
     TRUTH_WORDS <= truth
 }
 
-// One line: the numbers of what is read with it, or a refusal, which writes nothing. Long for the nine tables that each call names.
+// One line: the numbers of what is read with it, or a refusal, which writes nothing. Long for the nine tables that each call names. Long for its parameters, one a line.
 pub fn read_line(
     line: &[u8],
     n: State,

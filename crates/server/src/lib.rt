@@ -49,6 +49,7 @@ fn graph_words(a: Compiled) -> GraphWords
     }
 }
 
+// Long for its parameters, one a line.
 #[no_mangle]
 pub extern "C" fn pavrenni_compile(
     detectors: usize,

@@ -17,7 +17,7 @@ pub enum Shot {
     Stuck { rounds: u32, detector: u32 },
 }
 
-// Stuck, with the tables put to rest: n detectors are seen. A list and a row are left as they were.
+// Stuck, with the tables put to rest: n detectors are seen. A list and a row are left as they were. Long for its parameters, one a line.
 pub fn stuck_shot(
     detectors: usize,
     observables: usize,

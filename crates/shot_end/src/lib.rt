@@ -7,7 +7,7 @@ ghost use Rattle.finish.specs.Finish.{Settles, Finished};
 ghost use Rattle.growth_state.specs.Rep.{Used};
 ghost use Rattle.cleaning.specs.Clean.{Clean, Cleaning};
 
-// Peels all clusters, puts the observables of the list into out_row, and puts to rest what the shot has changed. Returns the length of the list.
+// Peels all clusters, puts the observables of the list into out_row, and puts to rest what the shot has changed. Returns the length of the list. Long for its parameters, one a line.
 pub fn end_shot(
     d: usize,
     edge_u: &[u32],

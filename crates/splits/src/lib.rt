@@ -47,7 +47,7 @@ fn is_suggested(counts: &[u8]) -> bool
     true
 }
 
-// p is added to each member of the first cover of s by the kept mechanisms, where there is one.
+// p is added to each member of the first cover of s by the kept mechanisms, where there is one. Long for its parameters, one a line.
 fn add_cover(
     s: Span,
     p: f64,
@@ -96,7 +96,7 @@ fn add_cover(
     true
 }
 
-// Mechanism i goes one of the two ways.
+// Mechanism i goes one of the two ways. Long for its parameters, one a line.
 pub fn split_one(
     i: usize,
     head: Mechanism,

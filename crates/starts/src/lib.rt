@@ -43,7 +43,7 @@ fn reset_clusters(
     fills::fill_u64(bits, 0);
 }
 
-// The tables of clusters put to rest, whatever they held, and the shot decoded: a table more in one function is past what the checker takes, so there is one for the tables of growth and one for these.
+// The tables of clusters put to rest, whatever they held, and the shot decoded: a table more in one function is past what the checker takes, so there is one for the tables of growth and one for these. Long for its parameters, one a line.
 fn decode_fresh(
     detectors: usize,
     observables: usize,
@@ -124,7 +124,7 @@ fn decode_fresh(
     )
 }
 
-// Every table put to rest, whatever it held, and the shot decoded.
+// Every table put to rest, whatever it held, and the shot decoded. Long for its parameters, one a line.
 pub fn decode_reset(
     detectors: usize,
     observables: usize,

@@ -220,7 +220,7 @@ fn append(
     link(starts, detector_counts, entries, at, last_of, before);
 }
 
-// p is added to the last mechanism with the lists of s, or to a new one.
+// p is added to the last mechanism with the lists of s, or to a new one. Long for its parameters, one a line.
 fn add_component(
     s: Span,
     p: f64,
@@ -274,7 +274,7 @@ fn add_component(
     })
 }
 
-// The same of n components from a place on.
+// The same of n components from a place on. Long for its parameters, one a line.
 pub fn add_components(
     n: usize,
     place: Place,

@@ -5,7 +5,7 @@ ghost use lib.ListN.{getD};
 ghost use mathlib.Core.Bool.{false};
 ghost use Rattle.walks.specs.Walks.{Tryable, Tried, Tabled, Gone};
 
-// Tries the edges of x, which stand in adj_edge from begin to end with their other ends in adj_far: each vertex that is new is marked, pushed and given its branch. Returns how many are new.
+// Tries the edges of x, which stand in adj_edge from begin to end with their other ends in adj_far: each vertex that is new is marked, pushed and given its branch. Returns how many are new. Long for its parameters, one a line.
 fn meet_all(
     d: usize,
     edge_u: &[u32],
@@ -50,7 +50,7 @@ fn meet_all(
     new
 }
 
-// Walks from the vertex start, which is new, along saturated pair edges. Returns how many branches there are.
+// Walks from the vertex start, which is new, along saturated pair edges. Returns how many branches there are. Long for its parameters, one a line.
 pub fn walk(
     d: usize,
     edge_u: &[u32],
