@@ -1,2 +1,3 @@
 pub mod Marker
 pub mod Decoder
+pub mod Verified
