@@ -1,0 +1,133 @@
+-- A turn of the batch: the answer from the next shot on is the answer from this one on.
+use Prim.Native.Nat.{ℕ, suc, _+_, _-_, _≤_, _<_}
+use native.Mathlib.Numerals.{add-one}
+use native.Mathlib.Omega.{arith}
+use mathlib.Core.Path.{_≡_, sym, ap, _∙_}
+use mathlib.Core.List.{List, [], _∷_}
+use lib.Ieee.{Float}
+use lib.ListN.{length}
+use Rattle.lists.specs.Lists.{from}
+use Rattle.bits.specs.Rows.{words}
+use Rattle.codes.specs.declared.Refusal.the-variants.{Stuck}
+use Rattle.codes.specs.declared.Checked.the-variants.{Accepted, Refused}
+use Rattle.steps.specs.Graph.{Graph}
+use Rattle.steps.specs.Shot.{Decoded, impossible, corrected}
+use Rattle.steps.specs.Call.{graphOf}
+use Rattle.shot_answer.specs.declared.Shot.{Shot}
+use Rattle.shot_answer.specs.declared.Shot.the-variants as shot
+use Rattle.shot_answer.specs.Shots.{Places, graphIn, shotOf}
+use Rattle.batch_shot.specs.Row.{putRow, shotAt, rowFor, GivenRow}
+use Rattle.batch_shot.proofs.Put.{row-inside}
+use Rattle.batch_rows.specs.Rows.{checkShotsOf, rowsOf, GivenRows}
+
+-- ---- what a shot's answer says of the steps
+
+pub stuck-is : (x : Decoded) {n d : ℕ} → shot.Stuck n d ≡ shotOf x → x ≡ impossible n d
+stuck-is (impossible n d) e = cc
+stuck-is (corrected n list) e = absurd (let z : _≡_ {A = ℕ} 0 1 = cc in omega arith)
+
+pub decoded-is : (x : Decoded) {n len : ℕ} → shot.Decoded n len ≡ shotOf x → (list : List ℕ) × (x ≡ corrected n list)
+decoded-is (impossible n d) e = absurd (let z : _≡_ {A = ℕ} 0 1 = cc in omega arith)
+decoded-is (corrected n list) e = (list, cc)
+
+-- ---- the shots from shot s on
+
+pub left-one : (shots s : ℕ) → s < shots → from (shots - s) s ≡ s ∷ from (shots - (s + 1)) (s + 1)
+unfolding from
+left-one shots s h =
+    let e : shots - s ≡ suc (shots - (s + 1)) = omega arith in
+    rw (e, add-one s)
+
+pub left-none : (shots s : ℕ) → shots ≤ s → from (shots - s) s ≡ []
+unfolding from
+left-none shots s h =
+    let e : shots - s ≡ 0 = omega arith in
+    rw e
+
+module _ (g : Graph) (rows out : List ℕ) (shots s : ℕ) where
+  pub end-answer : shots ≤ s → Accepted ≡ checkShotsOf g rows (from (shots - s) s)
+  unfolding checkShotsOf
+  end-answer h = rw (left-none shots s h)
+
+  pub end-rows : shots ≤ s → out ≡ rowsOf g rows (from (shots - s) s) out
+  unfolding rowsOf
+  end-rows h = rw (left-none shots s h)
+
+  module _ (h : s < shots) where
+    stop-answer : {n d : ℕ} → shotAt g rows s ≡ impossible n d → Refused (Stuck s d) ≡ checkShotsOf g rows (from (shots - s) s)
+    unfolding checkShotsOf
+    stop-answer e = rw (left-one shots s h, e)
+
+    stop-rows : {n d : ℕ} → shotAt g rows s ≡ impossible n d → putRow (words (g .observables)) s (rowFor g rows s) out ≡ rowsOf g rows (from (shots - s) s) out
+    unfolding rowsOf
+    stop-rows e = rw (left-one shots s h, e)
+
+    go-answer : {n : ℕ} {list : List ℕ} → shotAt g rows s ≡ corrected n list → checkShotsOf g rows (from (shots - (s + 1)) (s + 1)) ≡ checkShotsOf g rows (from (shots - s) s)
+    unfolding checkShotsOf
+    go-answer e = rw (left-one shots s h, e)
+
+    go-rows : {n : ℕ} {list : List ℕ} → shotAt g rows s ≡ corrected n list
+        → rowsOf g rows (from (shots - (s + 1)) (s + 1)) (putRow (words (g .observables)) s (rowFor g rows s) out) ≡ rowsOf g rows (from (shots - s) s) out
+    unfolding rowsOf
+    go-rows e = rw (left-one shots s h, e)
+
+-- ---- a turn of the loop
+
+module _ (d o : ℕ) (u v : List ℕ) (weight : List Float) (obs rows out out′ : List ℕ) (shots s : ℕ) (h : s < shots) where
+  abbrev H : Graph
+  H = graphIn d o u v weight obs
+
+  -- what shot s comes to, and the output with its row
+  abbrev Found : Shot → Type 0
+  Found found = (found ≡ shotOf (shotAt H rows s)) × (out′ ≡ putRow (words o) s (rowFor H rows s) out)
+
+  now-is : out′ ≡ putRow (words o) s (rowFor H rows s) out → out′ ≡ putRow (words (H .observables)) s (rowFor H rows s) out
+  unfolding graphOf
+  now-is e = e
+
+  pub stops : {n k : ℕ} {found : Shot} → found ≡ shot.Stuck n k → Found found → (Refused (Stuck s k) ≡ checkShotsOf H rows (from (shots - s) s)) × (out′ ≡ rowsOf H rows (from (shots - s) s) out)
+  stops a f =
+      let e = stuck-is (shotAt H rows s) (sym a ∙ f .0) in
+      (stop-answer H rows out shots s h e, now-is (f .1) ∙ stop-rows H rows out shots s h e)
+
+  pub goes-on : {n k : ℕ} {found : Shot} → found ≡ shot.Decoded n k → Found found
+      → (checkShotsOf H rows (from (shots - (s + 1)) (s + 1)) ≡ checkShotsOf H rows (from (shots - s) s))
+      × (rowsOf H rows (from (shots - (s + 1)) (s + 1)) out′ ≡ rowsOf H rows (from (shots - s) s) out)
+  goes-on a f =
+      let (list, e) = decoded-is (shotAt H rows s) (sym a ∙ f .0) in
+      (go-answer H rows out shots s h e, ap (rowsOf H rows (from (shots - (s + 1)) (s + 1))) (now-is (f .1)) ∙ go-rows H rows out shots s h e)
+
+-- what shot s of a batch is given
+pub given-row : {d o shots s : ℕ} {rows first list : List ℕ} → GivenRows d o shots rows first list → s < shots → (out list′ : List ℕ) → length out ≡ length first → length list′ ≡ length list
+    → GivenRow d o s rows out list′
+given-row {d} {o} {shots} {s} k h out list′ a b = record {
+  few = omega (arith, k .few);
+  few-detectors = k .few-detectors;
+  few-observables = k .few-observables;
+  words-end = omega (arith, k .long, row-inside s shots (words d) h);
+  clear = k .clear s h;
+  row-end = omega (arith, k .outs, row-inside s shots (words o) h);
+  lists = omega (arith, k .lists);
+}
+
+-- ---- what a shot leaves to the next
+
+-- of the same length as before the shot, and as at first
+pub on : (b : ℕ) {a c : ℕ} → a ≡ b → b ≡ c → a ≡ c
+on b p q = p ∙ q
+
+-- places of the same length
+pub places-on : {d E : ℕ} {defects seen active front touched cnt fresh oe op defects′ seen′ active′ front′ touched′ cnt′ fresh′ oe′ op′ : List ℕ} → Places d E defects seen active front touched cnt fresh oe op
+    → length defects′ ≡ length defects → length seen′ ≡ length seen → length active′ ≡ length active → length front′ ≡ length front → length touched′ ≡ length touched → length cnt′ ≡ length cnt
+    → length fresh′ ≡ length fresh → length oe′ ≡ length oe → length op′ ≡ length op → Places d E defects′ seen′ active′ front′ touched′ cnt′ fresh′ oe′ op′
+places-on k a b c e f g h i j = record {
+  lit-ones = omega (arith, k .lit-ones, a);
+  seens = omega (arith, k .seens, b);
+  actives = omega (arith, k .actives, c);
+  fronts = omega (arith, k .fronts, e);
+  touches = omega (arith, k .touches, f);
+  counts = omega (arith, k .counts, g);
+  freshes = omega (arith, k .freshes, h);
+  trees = omega (arith, k .trees, i);
+  parents = omega (arith, k .parents, j);
+}
