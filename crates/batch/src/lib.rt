@@ -20,7 +20,7 @@ fn rows_fit(shots: usize, w: usize, len: usize) -> bool
     true
 }
 
-// 2, of the call's own slices by their lengths: the rows, the list and the scratch.
+// 2, of the call's own slices by their lengths: the rows, the list and the scratch. Long for its parameters, one a line.
 pub fn own_long(
     detectors: usize,
     observables: usize,

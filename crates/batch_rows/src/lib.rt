@@ -9,7 +9,7 @@ ghost use Rattle.cleaning.specs.Clean.{Clean};
 ghost use Rattle.shot_answer.specs.Shots.{Tables, Places, graphIn};
 ghost use Rattle.batch_rows.specs.Rows.{checkShotsOf, rowsOf, GivenRows};
 
-// Shot by shot until one is Stuck, over tables at rest.
+// Shot by shot until one is Stuck, over tables at rest. Long for its parameters, one a line.
 pub fn decode_rows(
     detectors: usize,
     observables: usize,

@@ -9,7 +9,7 @@ ghost use Rattle.cleaning.specs.Clean.{Clean};
 ghost use Rattle.shot_answer.specs.Shots.{Tables, Places, Given, graphIn, decodeIn, shotOf};
 ghost use Rattle.batch_shot.specs.Row.{putRow, shotAt, rowFor, GivenRow};
 
-// Zeroes the row and decodes the shot into it.
+// Zeroes the row and decodes the shot into it. Long for its parameters, one a line.
 fn decode_row(
     detectors: usize,
     observables: usize,
@@ -90,7 +90,7 @@ fn decode_row(
     )
 }
 
-// The shot in its part of the rows. Its row is a part of the output, lent on to the decoder of a shot.
+// The shot in its part of the rows. Its row is a part of the output, lent on to the decoder of a shot. Long for its parameters, one a line.
 pub fn decode_at(
     detectors: usize,
     observables: usize,

@@ -9,7 +9,7 @@ ghost use Rattle.resets.specs.Rest.{GrowthSpaces, GrowthRest, ClusterSpaces, Cl
 ghost use Rattle.batch_rows.specs.Rows.{checkShotsOf, rowsOf, GivenRows};
 ghost use Rattle.batch_starts.specs.Ready.{Ready};
 
-// The tables of marks put to rest.
+// The tables of marks put to rest. Long for its parameters, one a line.
 fn decode_marks(
     detectors: usize,
     observables: usize,
@@ -94,7 +94,7 @@ fn decode_marks(
     )
 }
 
-// Those of clusters, and then those of marks.
+// Those of clusters, and then those of marks. Long for its parameters, one a line.
 fn decode_clusters(
     parent: &mut [u32],
     odd: &mut [bool],
@@ -177,7 +177,7 @@ fn decode_clusters(
     )
 }
 
-// Those of growth, and then the others.
+// Those of growth, and then the others. Long for its parameters, one a line.
 fn decode_growth(
     lit: &mut [bool],
     growth: &mut [f64],
@@ -261,7 +261,7 @@ fn decode_growth(
     )
 }
 
-// The edges at each detector worked out, and the shots decoded with them.
+// The edges at each detector worked out, and the shots decoded with them. Long for its parameters, one a line.
 pub fn decode_graph(
     adj_offsets: &mut [u32],
     adj_edge: &mut [u32],
