@@ -1,9 +1,9 @@
 -- The tables that lines were read into, as the tables of a model.
-use Prim.Native.Nat.{ℕ, zero, suc, _+_, _-_, _<_, _≤_}
+use Prim.Native.Nat.{ℕ, zero, suc, _+_, _-_, _<_, _≤_, min}
 use native.Mathlib.Omega.{arith}
 use mathlib.Core.Path.{_≡_, refl, sym, ap, ap₂, _∙_}
 use mathlib.Core.List.{List, [], _∷_, _++_, map}
-use mathlib.Core.Bool.{true}
+use mathlib.Core.Bool.{Bool, true, false, not}
 use lib.ListN.{length, getD, take, drop, length-append, length-map, length-take, List·getD-append, List·getD-map}
 use lib.Seq.{getD-take}
 use lib.Ieee as Ieee
@@ -13,21 +13,24 @@ use Rattle.lists.proofs.Members.{getD-any}
 use Rattle.codes.specs.declared.Refusal.the-variants.{Short}
 use Rattle.codes.specs.declared.Checked.{Checked}
 use Rattle.codes.specs.declared.Checked.the-variants.{Accepted, Refused}
+use Rattle.codes.specs.Order.{refuseIf, andThen}
 use Rattle.codes.specs.Limits.{checkCounts}
 use Rattle.dem.specs.declared.Place.{Place}
-use Rattle.dem.specs.Model.{probabilityFits, checkModel}
+use Rattle.dem.specs.Model.{ErrorMechanism, probabilityFits, checkModel}
 use Rattle.dem.specs.Tables.{Tables, modelOf, tablesOf, tablesHold, tablesWritten, written}
 use Rattle.dem.specs.Positions.{tables, placeOf, total}
 use Rattle.dem.specs.Check.{checkAll}
+use Rattle.dem.specs.Laws.{Reached}
 use Rattle.dem.proofs.Reading.{read-back, ends-written}
 use Rattle.dem.proofs.Positions.{hold-of, components-sum, totals-are}
 use Rattle.frames.specs.declared.State.{State}
 use Rattle.frames.specs.Input.{Given, Input, mechanismOf, modelRead, tablesRead}
-use Rattle.frames.proofs.FrameKinds.{held-of}
+use Rattle.frames.specs.Counts.{countsOf}
+use Rattle.frames.proofs.FrameKinds.{Held, held-of}
 use Rattle.probabilities.specs.Bits.{probabilityOf, Alike, Bytes}
 use Rattle.probabilities.proofs.Laws.{laws}
 use Rattle.reader.specs.Columns.{Columns, columns, byteOf, columnsAt, Holds}
-use Rattle.reader.proofs.Stored.{read-long}
+use Rattle.reader.proofs.Stored.{Long, read-long}
 use Rattle.reader.proofs.Written.{written-at}
 use Rattle.model_check.specs.ModelCheck.{modelTables, ModelChecked}
 use Rattle.model_check.proofs.Sums.{total-bytes, total-le}
@@ -192,6 +195,7 @@ module _ (n : State) (bs ds os cs cds cos es : List ℕ) (was : List Float) wher
     short-bits = λ _. (refl, refl);
     short = λ _. (refl, refl);
     column = λ k _. absurd (omega (arith, h, k));
+    whole = λ k _. absurd (omega (arith, h, k));
     answer = λ s ws ts k _. absurd (too-short s ws ts k);
     model = λ s ws ts k _ _. absurd (too-short s ws ts k);
   }
@@ -205,6 +209,7 @@ module _ (n : State) (bs ds os cs cds cos es : List ℕ) (was : List Float) wher
     short-bits = λ _. (refl, refl);
     short = λ _. (refl, refl);
     column = λ _ k. absurd (omega (arith, h, k));
+    whole = λ _ k. absurd (omega (arith, h, k));
     answer = λ s ws ts _ k. absurd (omega (arith, h, k));
     model = λ s ws ts _ k _. absurd (omega (arith, h, k));
   }
@@ -216,6 +221,7 @@ module _ (n : State) (bs ds os cs cds cos es : List ℕ) (was : List Float) wher
     short-bits = λ k. absurd (omega (arith, hb, k));
     short = λ k. absurd (omega (arith, hw, k));
     column = λ _ _. q;
+    whole = λ _ _. e;
     answer = λ s ws ts k _. e ∙ by s ws ts k .0;
     model = λ s ws ts k _ a. by s ws ts k .1 (sym e ∙ a);
   }

@@ -1,10 +1,10 @@
 -- Sums of counts that are bytes at most.
-use Prim.Native.Nat.{ℕ, zero, suc, _+_, _-_, _≤_}
+use Prim.Native.Nat.{ℕ, zero, suc, _+_, _-_, _<_, _≤_, min}
 use native.Mathlib.Omega.{arith}
 use native.Mathlib.Numerals.{one-add}
-use mathlib.Core.Path.{_≡_, ap, _∙_}
-use mathlib.Core.List.{List}
-use lib.ListN.{getD, take, drop}
+use mathlib.Core.Path.{_≡_, refl, sym, ap, _∙_}
+use mathlib.Core.List.{List, [], _∷_}
+use lib.ListN.{length, getD, take, drop}
 use lib.Seq.{getD-drop}
 use Rattle.dem.specs.Positions.{total}
 use Rattle.dem.proofs.Sums.{total-first, total-none, total-add}

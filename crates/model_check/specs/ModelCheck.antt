@@ -10,6 +10,7 @@ use Rattle.codes.specs.declared.Checked.the-variants.{Accepted, Refused}
 use Rattle.dem.specs.Model.{checkModel}
 use Rattle.dem.specs.Tables.{Tables, modelOf}
 use Rattle.dem.specs.Positions.{tables}
+use Rattle.dem.specs.Check.{checkAll}
 use Rattle.frames.specs.declared.State.{State}
 use Rattle.frames.specs.Input.{Input, modelRead}
 use Rattle.probabilities.specs.Bits.{probabilityOf}
@@ -27,7 +28,9 @@ pub record ModelChecked (n : State) (bs ds os cs cds cos es : List ℕ) (was : L
   pub short : length was < n .mechanisms → (r ≡ Refused Short) × (ps ≡ was)
   -- else the probabilities, from their bits
   pub column : n .mechanisms ≤ length bs → n .mechanisms ≤ length was → ps ≡ map probabilityOf (take (n .mechanisms) bs) ++ drop (n .mechanisms) was
-  -- the answer is that of the check of the model that was read
+  -- the answer is that of the check of the tables
+  pub whole : n .mechanisms ≤ length bs → n .mechanisms ≤ length was → r ≡ checkAll (n .detectors) (n .observables) (n .mechanisms) (tables ps ds os cs cds cos es)
+  -- and that of the check of the model that was read
   pub answer : (s : Input) (ws ts : List ℕ) → Holds s n (columns bs ds os cs cds cos es ws ts) → n .mechanisms ≤ length was
       → r ≡ checkModel (n .detectors) (n .observables) 0 (modelRead (s .mechanisms))
   -- and where it is accepted, the tables are that model's

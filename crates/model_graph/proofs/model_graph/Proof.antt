@@ -1,0 +1,114 @@
+-- `model_graph::model_graph`: decomposed, then compiled.
+use mathlib.Core.Path.{refl, sym, _∙_}
+use native.Mathlib.Omega.{arith}
+use Rattle.model_graph.proofs.Answers.{graph-refused, graph-compiled}
+use borrow.Author.Needs.{needs}
+use Rattle.model_graph.proofs.model_graph.Statement.{statement}
+use Rattle.model_graph.proofs.model_graph.Tie as tie
+
+entries-requires : tie.Need-entries-requires
+entries-requires c κs = search needs
+
+slice-aggregate-decompose-read : tie.Need-slice-aggregate-decompose-read
+slice-aggregate-decompose-read c = search needs
+
+slice-aggregate-decompose-read-2 : tie.Need-slice-aggregate-decompose-read-2
+slice-aggregate-decompose-read-2 c = search needs
+
+slice-aggregate-decompose-read-3 : tie.Need-slice-aggregate-decompose-read-3
+slice-aggregate-decompose-read-3 c = search needs
+
+slice-aggregate-decompose-read-4 : tie.Need-slice-aggregate-decompose-read-4
+slice-aggregate-decompose-read-4 c = search needs
+
+slice-aggregate-decompose-read-5 : tie.Need-slice-aggregate-decompose-read-5
+slice-aggregate-decompose-read-5 c = search needs
+
+slice-aggregate-decompose-read-6 : tie.Need-slice-aggregate-decompose-read-6
+slice-aggregate-decompose-read-6 c = search needs
+
+slice-aggregate-decompose-read-7 : tie.Need-slice-aggregate-decompose-read-7
+slice-aggregate-decompose-read-7 c = search needs
+
+decompose-read-requires : tie.Need-decompose-read-requires
+decompose-read-requires c κs = search needs
+
+enum-known-decomposed : tie.Need-enum-known-decomposed
+enum-known-decomposed c = search needs
+
+enum-known-decomposed-2 : tie.Need-enum-known-decomposed-2
+enum-known-decomposed-2 c = search needs
+
+slice-aggregate-compile : tie.Need-slice-aggregate-compile
+slice-aggregate-compile c = search needs
+
+slice-aggregate-compile-2 : tie.Need-slice-aggregate-compile-2
+slice-aggregate-compile-2 c = search needs
+
+slice-aggregate-compile-3 : tie.Need-slice-aggregate-compile-3
+slice-aggregate-compile-3 c = search needs
+
+slice-aggregate-compile-4 : tie.Need-slice-aggregate-compile-4
+slice-aggregate-compile-4 c = search needs
+
+slice-aggregate-compile-5 : tie.Need-slice-aggregate-compile-5
+slice-aggregate-compile-5 c = search needs
+
+slice-aggregate-compile-6 : tie.Need-slice-aggregate-compile-6
+slice-aggregate-compile-6 c = search needs
+
+slice-aggregate-compile-7 : tie.Need-slice-aggregate-compile-7
+slice-aggregate-compile-7 c = search needs
+
+compile-requires : tie.Need-compile-requires
+compile-requires c κs = search needs
+
+returns : tie.Need-returns
+returns c = λ ws ts. graph-refused (c .before .before .before .before .before .before .before .before .before .before .before .before .before .before .before .before .before .before .before .before .before .before .before .before .before .before .before .before .before .before .args .n) _ _ _ _ _ (rw (c .before .decomposed .given .1) at (c .before .before .before .before .before .before .before .before .before .before .decompose-read .ensures ws ts)) (record { probability = refl; detector-counts = refl; observable-counts = refl; component-counts = refl; component-detectors = refl; component-observables = refl; entries = sym (c .before .before .before .before .before .before .before .before .before .before .before .before .before .before .before .before .before .before .entries .ensures) })
+
+same-length : tie.Need-same-length
+same-length c = search needs
+
+same-length-2 : tie.Need-same-length-2
+same-length-2 c = search needs
+
+same-length-3 : tie.Need-same-length-3
+same-length-3 c = search needs
+
+same-length-4 : tie.Need-same-length-4
+same-length-4 c = search needs
+
+returns-2 : tie.Need-returns-2
+returns-2 c =
+    let decompose-read = c .before .before .before .before .before .before .before .before .before .before .before .before .before .before .before .before .before .before .before .before .before .before .before .before .before .before .before .before .before .before .decompose-read in
+    λ ws ts. graph-compiled (c .before .before .before .before .before .before .before .before .before .before .before .before .before .before .before .before .before .before .before .before .before .before .before .before .before .before .before .before .before .before .before .before .before .before .before .before .before .before .before .before .before .before .before .before .before .before .before .before .before .before .args .n) _ _ _ _ _ _ _ (decompose-read .kept .1 .1 .1 .1 .1 .1 .1 .1 .1 .0) (c .before .before .before .before .before .before .before .before .compile .ensures) (rw (c .before .before .before .before .before .before .before .before .before .before .before .before .before .before .before .before .before .before .before .before .before .decomposed2 .given .1) at (decompose-read .ensures ws ts)) (record { probability = refl; detector-counts = refl; observable-counts = refl; component-counts = refl; component-detectors = refl; component-observables = refl; entries = sym (c .before .before .before .before .before .before .before .before .before .before .before .before .before .before .before .before .before .before .before .before .before .before .before .before .before .before .before .before .before .before .before .before .before .before .before .before .before .before .entries .ensures) })
+
+pub model-graph-spec : {M : Type 1} → statement M
+model-graph-spec =
+    tie.close
+    (tie.spec
+    entries-requires
+    slice-aggregate-decompose-read
+    slice-aggregate-decompose-read-2
+    slice-aggregate-decompose-read-3
+    slice-aggregate-decompose-read-4
+    slice-aggregate-decompose-read-5
+    slice-aggregate-decompose-read-6
+    slice-aggregate-decompose-read-7
+    decompose-read-requires
+    enum-known-decomposed
+    enum-known-decomposed-2
+    slice-aggregate-compile
+    slice-aggregate-compile-2
+    slice-aggregate-compile-3
+    slice-aggregate-compile-4
+    slice-aggregate-compile-5
+    slice-aggregate-compile-6
+    slice-aggregate-compile-7
+    compile-requires
+    returns
+    same-length
+    same-length-2
+    same-length-3
+    same-length-4
+    returns-2)

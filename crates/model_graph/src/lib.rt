@@ -1,0 +1,211 @@
+// Document 01, "Frames": at 04 the model that was read is checked, decomposed and compiled.
+use codes::Checked;
+use codes::Refusal;
+use decomposed::Decomposed;
+use frames::State;
+use graph::Compiled;
+ghost use mathlib.Core.Path.{_≡_};
+ghost use mathlib.Core.List.{[]};
+ghost use lib.ListN.{length};
+ghost use Rattle.dem.specs.Positions.{tables};
+ghost use Rattle.graph.specs.Tables.{slices};
+ghost use Rattle.model_graph.specs.Answers.{DecomposedBy, CompiledHeld, GraphBy};
+
+// ---- tables, by their lengths
+
+// An entry for each of the mechanisms that a split may bring: 17 for each of 1,024.
+fn appended() -> [u32; 17408]
+    ensures { λ r. ⌜ 17408 ≡ length r ⌝ }
+{
+    [0; 17408]
+}
+
+// Places for all list entries.
+fn entries() -> [u32; 8192]
+    ensures { λ r. ⌜ 8192 ≡ length r ⌝ }
+{
+    [0; 8192]
+}
+
+// ---- 04
+
+// The model checked and decomposed into output tables. The scratch of the call is its own. Long for its parameters, one a line.
+fn decompose_read(
+    n: State,
+    probability_bits: &[u64],
+    detector_counts: &[u8],
+    observable_counts: &[u8],
+    component_counts: &[u8],
+    component_detectors: &[u8],
+    component_observables: &[u8],
+    entries: &[u32],
+    out_probability: &mut [f64],
+    out_detector_counts: &mut [u8],
+    out_observable_counts: &mut [u8],
+    out_component_counts: &mut [u8],
+    out_component_detectors: &mut [u8],
+    out_component_observables: &mut [u8],
+    out_entries: &mut [u32],
+) -> Decomposed
+    ensures { λ r. ⌜ DecomposedBy n (now («probability_bits» .entry)) (now («detector_counts» .entry)) (now («observable_counts» .entry)) (now («component_counts» .entry)) (now («component_detectors» .entry)) (now («component_observables» .entry)) (now (entries .entry)) (tables (now («out_probability» .entry)) (now («out_detector_counts» .entry)) (now («out_observable_counts» .entry)) (now («out_component_counts» .entry)) (now («out_component_detectors» .entry)) (now («out_component_observables» .entry)) (now («out_entries» .entry))) r (tables (now («out_probability» .exit)) (now («out_detector_counts» .exit)) (now («out_observable_counts» .exit)) (now («out_component_counts» .exit)) (now («out_component_detectors» .exit)) (now («out_component_observables» .exit)) (now («out_entries» .exit))) ⌝ }
+{
+    let mut probability = [0.0f64; 1024];
+    let checked = model_check::check_read(
+        n,
+        probability_bits,
+        detector_counts,
+        observable_counts,
+        component_counts,
+        component_detectors,
+        component_observables,
+        entries,
+        &mut probability,
+    );
+    if let Checked::Refused(r) = checked {
+        return Decomposed::Refused(r);
+    }
+    let mut starts = appended();
+    let mut before = appended();
+    let mut last_of = [0u32; 256];
+    let mut first_of = [0u32; 256];
+    let mut next_of = [0u32; 1024];
+    let mut numbers = [0u32; 1024];
+    let mut masks = [0u16; 1024];
+    let mut words0 = [0u64; 1024];
+    let mut words1 = [0u64; 1024];
+    let mut earlier = [0u32; 1024];
+    graphlike::decompose_graphlike(
+        n.detectors,
+        n.observables,
+        n.mechanisms,
+        &probability,
+        detector_counts,
+        observable_counts,
+        component_counts,
+        component_detectors,
+        component_observables,
+        entries,
+        out_probability,
+        out_detector_counts,
+        out_observable_counts,
+        out_component_counts,
+        out_component_detectors,
+        out_component_observables,
+        out_entries,
+        &mut starts,
+        &mut before,
+        &mut last_of,
+        &mut first_of,
+        &mut next_of,
+        &mut numbers,
+        &mut masks,
+        &mut words0,
+        &mut words1,
+        &mut earlier,
+    )
+}
+
+// The graph of a decomposed model. Long for its parameters, one a line.
+fn compile(
+    detectors: usize,
+    observables: usize,
+    mechanisms: usize,
+    probability: &[f64],
+    detector_counts: &[u8],
+    observable_counts: &[u8],
+    component_counts: &[u8],
+    component_detectors: &[u8],
+    component_observables: &[u8],
+    entries: &[u32],
+    edge_u: &mut [u32],
+    edge_v: &mut [u32],
+    edge_weight: &mut [f64],
+    edge_obs: &mut [u64],
+) -> Compiled
+    ensures { λ r. ⌜ CompiledHeld detectors observables mechanisms (tables (now (probability .entry)) (now («detector_counts» .entry)) (now («observable_counts» .entry)) (now («component_counts» .entry)) (now («component_detectors» .entry)) (now («component_observables» .entry)) (now (entries .entry))) (slices (now («edge_u» .entry)) (now («edge_v» .entry)) (now («edge_weight» .entry)) (now («edge_obs» .entry)) []) r (slices (now («edge_u» .exit)) (now («edge_v» .exit)) (now («edge_weight» .exit)) (now («edge_obs» .exit)) []) ⌝ }
+{
+    let mut edge_p = [0.0f64; 1024];
+    let mut first = [0u32; 256];
+    let mut next = [0u32; 1024];
+    graph::from_model(
+        detectors,
+        observables,
+        mechanisms,
+        probability,
+        detector_counts,
+        observable_counts,
+        component_counts,
+        component_detectors,
+        component_observables,
+        entries,
+        edge_u,
+        edge_v,
+        edge_weight,
+        edge_obs,
+        &mut edge_p,
+        &mut first,
+        &mut next,
+    )
+}
+
+// The graph of the model that was read, into its tables. Long for its parameters, one a line.
+pub fn model_graph(
+    n: State,
+    probability_bits: &[u64],
+    detector_counts: &[u8],
+    observable_counts: &[u8],
+    component_counts: &[u8],
+    component_detectors: &[u8],
+    component_observables: &[u8],
+    entries: &[u32],
+    edge_u: &mut [u32],
+    edge_v: &mut [u32],
+    edge_weight: &mut [f64],
+    edge_obs: &mut [u64],
+) -> Compiled
+    ensures { λ r. ⌜ GraphBy n (now («probability_bits» .entry)) (now («detector_counts» .entry)) (now («observable_counts» .entry)) (now («component_counts» .entry)) (now («component_detectors» .entry)) (now («component_observables» .entry)) (now (entries .entry)) (slices (now («edge_u» .entry)) (now («edge_v» .entry)) (now («edge_weight» .entry)) (now («edge_obs» .entry)) []) r (slices (now («edge_u» .exit)) (now («edge_v» .exit)) (now («edge_weight» .exit)) (now («edge_obs» .exit)) []) ⌝ }
+{
+    let mut out_probability = [0.0f64; 1024];
+    let mut out_detector_counts = [0u8; 1024];
+    let mut out_observable_counts = [0u8; 1024];
+    let mut out_component_counts = [0u8; 1024];
+    let mut out_component_detectors = [0u8; 1024];
+    let mut out_component_observables = [0u8; 1024];
+    let mut out_entries = crate::entries();
+    let decomposed = decompose_read(
+        n,
+        probability_bits,
+        detector_counts,
+        observable_counts,
+        component_counts,
+        component_detectors,
+        component_observables,
+        entries,
+        &mut out_probability,
+        &mut out_detector_counts,
+        &mut out_observable_counts,
+        &mut out_component_counts,
+        &mut out_component_detectors,
+        &mut out_component_observables,
+        &mut out_entries,
+    );
+    match decomposed {
+        Decomposed::Refused(r) => Compiled::Refused(r),
+        Decomposed::Into(counts) => compile(
+            n.detectors,
+            n.observables,
+            counts.mechanisms,
+            &out_probability,
+            &out_detector_counts,
+            &out_observable_counts,
+            &out_component_counts,
+            &out_component_detectors,
+            &out_component_observables,
+            &out_entries,
+            edge_u,
+            edge_v,
+            edge_weight,
+            edge_obs,
+        ),
+    }
+}
