@@ -1,85 +1,109 @@
--- The call put together: what an accepted batch has, and what the parts of the call leave.
-use Prim.Native.Nat.{ℕ, _+_, _-_, _*_, _/_, _≤_, _<_}
-use native.Mathlib.Nat.{sub-zero}
+-- The call put together: the tests of its own slices, what an accepted batch has, and what it answers and leaves.
+use Prim.Native.Nat.{ℕ, _+_, _-_, _*_, _/_, _≤_}
 use native.Mathlib.Omega.{arith}
-use mathlib.Core.Path.{_≡_, refl, sym, ap, _∙_}
+use mathlib.Core.Path.{_≡_, refl, sym, ap, _∙_, subst}
 use mathlib.Core.List.{List}
-use mathlib.Core.Bool.{Bool, true, false, _&&_}
-use lib.Dec.{leb}
+use mathlib.Core.Bool.{Bool, true, _&&_}
+use lib.Dec.{leb, ltb}
 use lib.Ieee.{Float}
 use lib.ListN.{length, take}
-use lib.Seq.{length-take-le, take-take}
-use borrow.Author.Tests.{leb-true, le-leb, lt-leb}
+use lib.Seq.{length-take-le}
+use borrow.Author.Tests.{leb-true, le-leb}
 use Rattle.lists.specs.Lists.{below}
-use Rattle.lists.proofs.Truth.{case-of, and-left, and-right}
+use Rattle.lists.proofs.Truth.{and-left, and-right}
 use Rattle.bits.specs.Rows.{words}
 use Rattle.codes.specs.declared.Refusal.{Refusal}
 use Rattle.codes.specs.declared.Checked.{Checked}
 use Rattle.codes.specs.declared.Checked.the-variants.{Accepted, Refused}
 use Rattle.packed.proofs.Shots.{product-none}
-use Rattle.steps.specs.Graph.{Graph}
+use Rattle.steps.specs.Graph.{Ends}
 use Rattle.steps.specs.Call.{graphOf}
-use Rattle.shot_answer.specs.Shots as shots
-use Rattle.scratch.specs.declared.Lengths.{Lengths}
-use Rattle.scratch.specs.Scratch.{scratchLong, lengthsOf}
+use Rattle.adjacency.specs.Adjacent.{plain, Sized}
+use Rattle.scratch.specs.Scratch.{scratchLong, covers, lengthsFor}
 use Rattle.scratch.specs.Laws.{Long}
 use Rattle.scratch.proofs.Laws.{scratch-long}
+use Rattle.scratch.proofs.Tests.{half, past}
 use Rattle.calls.specs.Call.{Lent, lentOf, graphIn, checkCall}
 use Rattle.calls.specs.Laws.{Accepts}
 use Rattle.calls.proofs.Laws.{call-accepted}
+use Rattle.parts.specs.Wide.{AdjacentParts, Wide}
+use Rattle.parts.proofs.Laws.{part, part-length}
+use Rattle.decoder.specs.Parts.{adjLong, cleanLong}
+use Rattle.decoder.proofs.Laws.{adj-long}
 use Rattle.batch_rows.specs.Rows.{checkShotsOf, rowsOf, GivenRows}
-use Rattle.resets.specs.Rest.{cut}
-use Rattle.resets.proofs.Laws.{cut-length}
-use Rattle.batch_starts.specs.Ready.{Ready}
-use Rattle.batch.specs.Batch.{Handed, handed, ownLong, checks, outAfter, Decodes}
+use Rattle.batch.specs.Batch.{Handed, ownLong, checks, outAfter, Decodes}
+use Rattle.batch.specs.Parts.{restLong}
 
--- ---- the lengths
+-- ---- tests without a product or a sum
 
 -- no words a row: they fit
 pub none-fits : (shots w len : ℕ) → w ≡ 0 → true ≡ leb (shots * w) len
 none-fits shots w len z = sym (le-leb (shots * w) len (omega (arith, product-none len shots w z)))
 
-pub own-by : (shots o out d list : ℕ) (w : ℕ) (rows lists long have : Bool) → w ≡ words o → rows ≡ leb (shots * w) out → lists ≡ leb d list → long ≡ have
-    → (rows && (lists && long)) ≡ (leb (shots * words o) out && (leb d list && have))
-own-by shots o out d list w rows lists long have e p q r = rw (p, q, r, e)
+pub rest-tests : (d o n shots w out list off adj far defects seen active front touched cnt fresh oe op : ℕ) (fit rest : Bool) {r1 r2 r3 r4 r5 r6 r7 r8 r9 r10 r11 r12 r13 : Bool} → w ≡ words o
+    → r1 ≡ (leb d op && rest) → r2 ≡ (leb d oe && r1) → r3 ≡ (leb n fresh && r2) → r4 ≡ (leb n cnt && r3) → r5 ≡ (leb n touched && r4) → r6 ≡ (leb d front && r5)
+    → r7 ≡ (leb d active && r6) → r8 ≡ (leb d seen && r7) → r9 ≡ (leb d defects && r8) → r10 ≡ (leb n (far / 2) && r9) → r11 ≡ (leb n (adj / 2) && r10) → r12 ≡ (ltb d off && r11) → r13 ≡ (leb d list && r12) → fit ≡ leb (shots * w) out
+    → (fit && r13) ≡ restLong d o n shots out list off adj far defects seen active front touched cnt fresh oe op rest
+rest-tests d o n shots w out list off adj far defects seen active front touched cnt fresh oe op fit rest q p1 p2 p3 p4 p5 p6 p7 p8 p9 p10 p11 p12 p13 f =
+    rw (f, p13, p12, p11, p10, p9, p8, p7, p6, p5, p4, p3, p2, p1, past d off, half n adj, half n far, q) refl
 
--- ---- the graph in the entries that the counts need
+-- ---- the graph of an accepted call
 
-module _ (l : Lent) (h : l .edges ≤ length (l .u)) where
-  abbrev E : ℕ
-  E = l .edges
-
-  -- tables of E entries
-  abbrev pub graphCut : Graph
-  graphCut = shots.graphIn (l .detectors) (l .observables) (cut E (l .u)) (cut E (l .v)) (cut E (l .weight)) (l .obs)
-
-  pub cut-long : length (cut E (l .u)) ≡ E
-  cut-long = cut-length E (l .u) h
-
-  pub graph-cut : graphCut ≡ graphIn l
+module _ {d o n : ℕ} {u v : List ℕ} {weight : List Float} {obs : List ℕ} {long : Bool} {rows : List ℕ} {shots width : ℕ} (a : Accepts (lentOf d o n u v weight obs) long rows shots width) where
+  ends-plain : Ends (plain d (take n u) (take n v))
   unfolding graphOf
-  graph-cut = rw (cut-long, sub-zero E, take-take E E (l .u) (omega arith), take-take E E (l .v) (omega arith), take-take E E (l .weight) (omega arith)) refl
+  ends-plain = let k = a .ends in record { as-many = k .as-many; small = k .small; inside = k .inside; paired = k .paired }
+
+  -- what its adjacency asks
+  pub sized : (off : List ℕ) → d + 1 ≤ length off → Sized d (part n u) (part n v) (part (d + 1) off)
+  sized off p =
+      let z : n - 0 ≡ n = omega arith in
+      let y : d + 1 - 0 ≡ d + 1 = omega arith in
+      rw (z, y) (record { ends = ends-plain; few = omega (arith, length-take-le n u (a .u-long), a .few-edges); offs = length-take-le (d + 1) off p })
+
+  pub room : (adj far : List ℕ) → 2 * n ≤ length adj → 2 * n ≤ length far → (2 * length (part n u) ≤ length (part (2 * n) adj)) × (length (part (2 * n) far) ≡ length (part (2 * n) adj))
+  room adj far p q = (
+    omega (arith, part-length n u (a .u-long), part-length (2 * n) adj p),
+    omega (arith, part-length (2 * n) adj p, part-length (2 * n) far q),
+  )
+
+  -- with it, what a shot asks
+  pub wide : (off adj far : List ℕ) → d + 1 ≤ length off → 2 * n ≤ length adj → 2 * n ≤ length far → AdjacentParts d n u v off adj far → Wide d o n u v weight obs off adj far
+  wide off adj far p q r t = record {
+    ends = a .ends;
+    firsts = a .u-long;
+    others = a .v-long;
+    weights = a .weight-long;
+    rows = a .obs-long;
+    few = omega (arith, a .few-edges);
+    offs = p;
+    adjs = q;
+    fars = r;
+    adjacent = t;
+  }
 
 -- ---- the outcome
 
+-- the tests in parts
+abbrev pub cleanBy : Handed → Bool
+cleanBy h = cleanLong (h .graph .detectors) (h .graph .edges) (h .scratch .lit) (h .scratch .growth) (h .scratch .sat) (h .scratch .known) (h .scratch .parent) (h .scratch .odd) (h .scratch .«boundary_edge») (h .scratch .hot) (h .scratch .free) (h .scratch .live) (h .scratch .bits)
+
+abbrev pub ownBy : Handed → Bool → Bool
+ownBy h rest = restLong (h .graph .detectors) (h .graph .observables) (h .graph .edges) (h .shots) (length (h .out)) (h .list) (h .scratch .«adj_offsets») (h .scratch .«adj_edge») (h .scratch .«adj_far») (h .scratch .defects) (h .scratch .seen) (h .scratch .active) (h .scratch .front) (h .scratch .touched) (h .scratch .cnt) (h .scratch .fresh) (h .scratch .«order_edge») (h .scratch .«order_parent») rest
+
 module _ (h : Handed) where
+  -- the tests put together
+  pub own-is : {own long : Bool} → own ≡ ownBy h long → long ≡ cleanBy h → own ≡ ownLong h
+  unfolding ownLong scratchLong covers lengthsFor
+  own-is p q = p ∙ ap (ownBy h) q
+
+  -- the check of the call is the one that was made
   pub checks-by : (long : Bool) (c : Checked) → long ≡ ownLong h → c ≡ checkCall (h .graph) long (h .rows) (h .shots) (h .width) → c ≡ checks h
   unfolding checks
   checks-by long c p q = q ∙ ap (λ (b : Bool). checkCall (h .graph) b (h .rows) (h .shots) (h .width)) p
 
-  pub own-is : (long : Bool) → long ≡ (leb (h .shots * words (h .graph .observables)) (length (h .out)) && (leb (h .graph .detectors) (h .list) && scratchLong (h .graph .detectors) (h .graph .edges) (h .scratch))) → long ≡ ownLong h
-  unfolding ownLong
-  own-is long e = e
-
   pub refused : {r : Refusal} → Refused r ≡ checks h → Decodes h (Refused r) (h .out)
   refused e = record { answers = rw (sym e) refl; rows = rw (sym e) refl }
-
-  pub decoded : Accepted ≡ checks h → {g : Graph} → g ≡ graphIn (h .graph) → {r : Checked} {out : List ℕ} → r ≡ checkShotsOf g (h .rows) (below (h .shots)) → out ≡ rowsOf g (h .rows) (below (h .shots)) (h .out)
-      → Decodes h r out
-  decoded a e p q = record {
-    answers = rw (sym a) (p ∙ ap (λ (t : Graph). checkShotsOf t (h .rows) (below (h .shots))) e);
-    rows = rw (sym a) (q ∙ ap (λ (t : Graph). rowsOf t (h .rows) (below (h .shots)) (h .out)) e);
-  }
 
   -- what an accepted call has
   module _ (a : Accepted ≡ checks h) where
@@ -104,10 +128,6 @@ module _ (h : Handed) where
     pub scratch : Long (h .graph .detectors) (h .graph .edges) (h .scratch)
     scratch = scratch-long (h .graph .detectors) (h .graph .edges) (h .scratch) (and-right (leb (h .graph .detectors) (h .list)) (scratchLong (h .graph .detectors) (h .graph .edges) (h .scratch)) lists-long)
 
-    -- the same, with as many edges as the cut tables have
-    pub scratch-cut : Long (h .graph .detectors) (length (cut (h .graph .edges) (h .graph .u))) (h .scratch)
-    scratch-cut = rw (cut-long (h .graph) (accepts .u-long)) scratch
-
     pub given-rows : (list : List ℕ) → length list ≡ h .list → GivenRows (h .graph .detectors) (h .graph .observables) (h .shots) (h .rows) (h .out) list
     given-rows list e = record {
       few = accepts .few-shots;
@@ -119,20 +139,21 @@ module _ (h : Handed) where
       lists = omega (arith, list-long);
     }
 
-    pub ready : (off adj far : List ℕ) → h .graph .detectors + 1 ≤ length off → 2 * h .graph .edges ≤ length adj → 2 * h .graph .edges ≤ length far
-        → Ready (h .graph .detectors) (h .graph .observables) (cut (h .graph .edges) (h .graph .u)) (cut (h .graph .edges) (h .graph .v)) (cut (h .graph .edges) (h .graph .weight)) (h .graph .obs) (cut (h .graph .detectors + 1) off) (cut (2 * h .graph .edges) adj) (cut (2 * h .graph .edges) far)
-    ready off adj far p q r =
-        let n = h .graph .edges in
-        let u = cut-long (h .graph) (accepts .u-long) in
-        let v = cut-length n (h .graph .v) (accepts .v-long) in
-        let w = cut-length n (h .graph .weight) (accepts .weight-long) in
-        record {
-          ends = rw (graph-cut (h .graph) (accepts .u-long)) (accepts .ends);
-          others = v ∙ sym u;
-          weights = w ∙ sym u;
-          rows = rw u (accepts .obs-long);
-          few = rw u (omega (arith, accepts .few-edges));
-          offs = cut-length (h .graph .detectors + 1) off p;
-          adjs = cut-length (2 * n) adj q ∙ ap (λ (k : ℕ). 2 * k) (sym u);
-          fars = cut-length (2 * n) far r ∙ ap (λ (k : ℕ). 2 * k) (sym u);
-        }
+    -- it is accepted by what is known before its other slices are tested
+    pub adj-accepted : checkCall (h .graph) (adjLong (h .graph .detectors) (h .graph .edges) (h .scratch .«adj_offsets») (h .scratch .«adj_edge») (h .scratch .«adj_far»)) (h .rows) (h .shots) (h .width) ≡ Accepted
+    unfolding checks
+    adj-accepted = ap (λ (b : Bool). checkCall (h .graph) b (h .rows) (h .shots) (h .width)) (adj-long (h .graph .detectors) (h .graph .edges) scratch ∙ sym own) ∙ sym a
+
+    pub decoded : {r : Checked} {out : List ℕ} → (r ≡ checkShotsOf (graphIn (h .graph)) (h .rows) (below (h .shots))) × (out ≡ rowsOf (graphIn (h .graph)) (h .rows) (below (h .shots)) (h .out)) → Decodes h r out
+    decoded k = record { answers = rw (sym a) (k .0); rows = rw (sym a) (k .1) }
+
+-- ---- tables of another content and the same lengths
+
+pub still-tabled : (l : Lent) (rows : List ℕ) (d n shots width : ℕ) {a b c a′ b′ c′ : ℕ} {P : Type 0} → a′ ≡ a → b′ ≡ b → c′ ≡ c
+    → (checkCall l (adjLong d n a b c) rows shots width ≡ Accepted → P) → checkCall l (adjLong d n a′ b′ c′) rows shots width ≡ Accepted → P
+still-tabled l rows d n shots width {a} {b} {c} {a′} {b′} {c′} p q r f h =
+    f (subst (λ (x : ℕ). checkCall l (adjLong d n x b c) rows shots width ≡ Accepted) p (subst (λ (x : ℕ). checkCall l (adjLong d n a′ x c) rows shots width ≡ Accepted) q (subst (λ (x : ℕ). checkCall l (adjLong d n a′ b′ x) rows shots width ≡ Accepted) r h)))
+
+pub still-decodes : (f : ℕ → ℕ → ℕ → Handed) {a b c a′ b′ c′ : ℕ} {r : Checked} {out : List ℕ} → a′ ≡ a → b′ ≡ b → c′ ≡ c → Decodes (f a′ b′ c′) r out → Decodes (f a b c) r out
+still-decodes f {a} {b} {c} {a′} {b′} {c′} {r} {out} p q s k =
+    subst (λ (x : ℕ). Decodes (f x b c) r out) p (subst (λ (x : ℕ). Decodes (f a′ x c) r out) q (subst (λ (x : ℕ). Decodes (f a′ b′ x) r out) s k))

@@ -1,38 +1,41 @@
--- A graph that is ready has what its adjacency asks, and with it what a shot asks.
-use Prim.Native.Nat.{ℕ}
+-- The tables of marks in as many words as the edges need, and what the first entries of a graph's tables ask and leave.
+use Prim.Native.Nat.{ℕ, _-_}
 use native.Mathlib.Omega.{arith}
-use mathlib.Core.Path.{_≡_, refl}
+use mathlib.Core.Path.{_≡_, subst}
 use mathlib.Core.List.{List}
 use mathlib.Core.Bool.{Bool}
 use lib.Ieee.{Float}
 use lib.ListN.{length}
-use lib.Seq.{take-all}
+use Rattle.lists.specs.Lists.{below}
 use Rattle.bits.specs.Rows.{words}
-use Rattle.steps.specs.Graph.{Ends}
+use Rattle.codes.specs.declared.Checked.{Checked}
+use Rattle.steps.specs.Graph.{Graph}
 use Rattle.steps.specs.Call.{graphOf}
-use Rattle.found.proofs.SameEnds.{SameEnds, same-ends}
-use Rattle.adjacency.specs.Adjacent.{plain, Sized, Adjacent}
-use Rattle.shot_answer.specs.Shots.{Tables, graphIn}
-use Rattle.resets.specs.Rest.{cut, MarkRest}
-use Rattle.batch_starts.specs.Ready.{Ready}
-
-module _ {d o : ℕ} {u v : List ℕ} {weight : List Float} {obs off adj far : List ℕ} (t : Ready d o u v weight obs off adj far) where
-  ends-plain : Ends (plain d u v)
-  unfolding graphOf
-  ends-plain =
-      let s : SameEnds (graphIn d o u v weight obs) (plain d u v) = record {
-        detectors = refl;
-        edge-u = take-all (length u) u (omega arith);
-        edge-v = take-all (length u) v (omega (arith, t .others));
-      } in
-      same-ends s (t .ends)
-
-  pub sized : Sized d u v off
-  sized = record { ends = ends-plain; few = t .few; offs = t .offs }
-
-  pub tables : {off′ adj′ far′ : List ℕ} → Adjacent d u v off′ adj′ far′ → Tables d o u v weight obs off′ adj′ far′
-  tables a = record { ends = t .ends; others = t .others; weights = t .weights; rows = t .rows; few = t .few; adjacent = a }
+use Rattle.shot_answer.specs.Shots.{graphIn}
+use Rattle.parts.specs.Wide.{Wide}
+use Rattle.parts.proofs.Laws.{part, part-length, graph-part}
+use Rattle.resets.specs.Rest.{cut, GrowthSpaces, MarkSpaces, MarkRest}
+use Rattle.batch_rows.specs.Rows.{checkShotsOf, rowsOf}
 
 -- as many words of marks as the edges need
 pub marks-in : {d E w : ℕ} {free live : List Bool} (bits : List ℕ) → w ≡ words E → MarkRest d E free live (cut (words E) bits) → MarkRest d E free live (cut w bits)
 marks-in bits e m = rw e m
+
+module _ {d o n : ℕ} {u v : List ℕ} {weight : List Float} {obs off adj far : List ℕ} (t : Wide d o n u v weight obs off adj far) where
+  counted : length (part n u) ≡ n
+  counted = part-length n u (t .firsts)
+
+  pub growth-spaces : {lit : List Bool} {growth : List Float} {sat known : List Bool} → GrowthSpaces d n lit growth sat known → GrowthSpaces d (length (part n u)) lit growth sat known
+  growth-spaces k = rw counted k
+
+  pub mark-spaces : {free live : List Bool} {bits : List ℕ} → MarkSpaces d n free live bits → MarkSpaces d (length (part n u)) free live bits
+  mark-spaces k = rw counted k
+
+  -- what the shots leave on the parts they leave on the graph
+  pub parted : (rows out : List ℕ) (shots : ℕ) {r : Checked} {out′ : List ℕ}
+      → (r ≡ checkShotsOf (graphIn d o (part n u) (part n v) (part n weight) obs) rows (below shots)) × (out′ ≡ rowsOf (graphIn d o (part n u) (part n v) (part n weight) obs) rows (below shots) out)
+      → (r ≡ checkShotsOf (graphOf d o n u v weight obs) rows (below shots)) × (out′ ≡ rowsOf (graphOf d o n u v weight obs) rows (below shots) out)
+  parted rows out shots {r} {out′} k =
+      let z : n - 0 ≡ n = omega arith in
+      let e : graphIn d o (part n u) (part n v) (part n weight) obs ≡ graphOf d o n u v weight obs = rw z (graph-part d o n u v weight obs (t .firsts)) in
+      subst (λ (g : Graph). (r ≡ checkShotsOf g rows (below shots)) × (out′ ≡ rowsOf g rows (below shots) out)) e k

@@ -1,15 +1,16 @@
-// The shots of a batch decoded over slices of any content, which may be longer than the counts need: the edges at each detector are worked out, and the tables are put to rest.
+// The shots of a batch decoded over slices of any content, which may be longer than the counts need: of each the first entries are lent on, and the tables are put to rest.
 // One group of tables a function, and the slices that it writes first: else the checker does not come to an end.
 use codes::Checked;
 ghost use mathlib.Core.Path.{_≡_};
 ghost use lib.ListN.{length};
 ghost use Rattle.lists.specs.Lists.{below};
+ghost use Rattle.steps.specs.Call.{graphOf};
 ghost use Rattle.shot_answer.specs.Shots.{Tables, Places, graphIn};
+ghost use Rattle.parts.specs.Wide.{Wide};
 ghost use Rattle.resets.specs.Rest.{GrowthSpaces, GrowthRest, ClusterSpaces, ClusterRest, MarkSpaces};
 ghost use Rattle.batch_rows.specs.Rows.{checkShotsOf, rowsOf, GivenRows};
-ghost use Rattle.batch_starts.specs.Ready.{Ready};
 
-// The tables of marks put to rest. Long for its parameters, one a line.
+// The tables of marks put to rest.
 fn decode_marks(
     detectors: usize,
     observables: usize,
@@ -94,7 +95,7 @@ fn decode_marks(
     )
 }
 
-// Those of clusters, and then those of marks. Long for its parameters, one a line.
+// Those of clusters, and then those of marks.
 fn decode_clusters(
     parent: &mut [u32],
     odd: &mut [bool],
@@ -177,7 +178,7 @@ fn decode_clusters(
     )
 }
 
-// Those of growth, and then the others. Long for its parameters, one a line.
+// Those of growth, and then the others.
 fn decode_growth(
     lit: &mut [bool],
     growth: &mut [f64],
@@ -261,11 +262,8 @@ fn decode_growth(
     )
 }
 
-// The edges at each detector worked out, and the shots decoded with them. Long for its parameters, one a line.
-pub fn decode_graph(
-    adj_offsets: &mut [u32],
-    adj_edge: &mut [u32],
-    adj_far: &mut [u32],
+// The entries of the graph's tables that its edges need, and then those of the others. Long for its parameters, one a line.
+pub fn decode_parts(
     out: &mut [u64],
     list: &mut [u32],
     defects: &mut [u32],
@@ -290,23 +288,28 @@ pub fn decode_graph(
     bits: &mut [u64],
     detectors: usize,
     observables: usize,
+    edges: usize,
     edge_u: &[u32],
     edge_v: &[u32],
     edge_weight: &[f64],
     edge_obs: &[u64],
+    adj_offsets: &[u32],
+    adj_edge: &[u32],
+    adj_far: &[u32],
     rows: &[u64],
     shots: usize,
 ) -> Checked
-    requires { ⌜ Ready detectors observables (now «edge_u») (now «edge_v») (now «edge_weight») (now «edge_obs») (now «adj_offsets») (now «adj_edge») (now «adj_far») ⌝ }
+    requires { ⌜ Wide detectors observables edges (now «edge_u») (now «edge_v») (now «edge_weight») (now «edge_obs») (now «adj_offsets») (now «adj_edge») (now «adj_far») ⌝ }
     requires { ⌜ GivenRows detectors observables shots (now rows) (now out) (now list) ⌝ }
-    requires { ⌜ Places detectors (length (now «edge_u»)) (now defects) (now seen) (now active) (now front) (now touched) (now cnt) (now fresh) (now «order_edge») (now «order_parent») ⌝ }
-    requires { ⌜ GrowthSpaces detectors (length (now «edge_u»)) (now lit) (now growth) (now sat) (now known) ⌝ }
+    requires { ⌜ Places detectors edges (now defects) (now seen) (now active) (now front) (now touched) (now cnt) (now fresh) (now «order_edge») (now «order_parent») ⌝ }
+    requires { ⌜ GrowthSpaces detectors edges (now lit) (now growth) (now sat) (now known) ⌝ }
     requires { ⌜ ClusterSpaces detectors (now parent) (now odd) (now «boundary_edge») (now hot) ⌝ }
-    requires { ⌜ MarkSpaces detectors (length (now «edge_u»)) (now free) (now live) (now bits) ⌝ }
-    ensures answers { λ r. ⌜ r ≡ checkShotsOf (graphIn detectors observables (now («edge_u» .entry)) (now («edge_v» .entry)) (now («edge_weight» .entry)) (now («edge_obs» .entry))) (now (rows .entry)) (below shots) ⌝ }
-    ensures rows { λ _. ⌜ now (out .exit) ≡ rowsOf (graphIn detectors observables (now («edge_u» .entry)) (now («edge_v» .entry)) (now («edge_weight» .entry)) (now («edge_obs» .entry))) (now (rows .entry)) (below shots) (now (out .entry)) ⌝ }
+    requires { ⌜ MarkSpaces detectors edges (now free) (now live) (now bits) ⌝ }
+    ensures answers { λ r. ⌜ r ≡ checkShotsOf (graphOf detectors observables edges (now («edge_u» .entry)) (now («edge_v» .entry)) (now («edge_weight» .entry)) (now («edge_obs» .entry))) (now (rows .entry)) (below shots) ⌝ }
+    ensures rows { λ _. ⌜ now (out .exit) ≡ rowsOf (graphOf detectors observables edges (now («edge_u» .entry)) (now («edge_v» .entry)) (now («edge_weight» .entry)) (now («edge_obs» .entry))) (now (rows .entry)) (below shots) (now (out .entry)) ⌝ }
 {
-    adjacency::adjacency(detectors, edge_u, edge_v, adj_offsets, adj_edge, adj_far);
+    let offsets = detectors + 1;
+    let ends = 2 * edges;
     decode_growth(
         lit,
         growth,
@@ -332,13 +335,13 @@ pub fn decode_graph(
         bits,
         detectors,
         observables,
-        edge_u,
-        edge_v,
-        edge_weight,
+        &edge_u[0..edges],
+        &edge_v[0..edges],
+        &edge_weight[0..edges],
         edge_obs,
-        adj_offsets,
-        adj_edge,
-        adj_far,
+        &adj_offsets[0..offsets],
+        &adj_edge[0..ends],
+        &adj_far[0..ends],
         rows,
         shots,
     )
