@@ -57,7 +57,7 @@ fn clean_long(
     long
 }
 
-// 2, of the call's own slices by their lengths, where it is known of the tables that are put to rest.
+// 2, of the call's own slices by their lengths, where it is known of the tables that are put to rest. Long for its parameters, one a line.
 fn own_long(
     detectors: usize,
     observables: usize,

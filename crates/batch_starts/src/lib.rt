@@ -10,7 +10,7 @@ ghost use Rattle.parts.specs.Wide.{Wide};
 ghost use Rattle.resets.specs.Rest.{GrowthSpaces, GrowthRest, ClusterSpaces, ClusterRest, MarkSpaces};
 ghost use Rattle.batch_rows.specs.Rows.{checkShotsOf, rowsOf, GivenRows};
 
-// The tables of marks put to rest.
+// The tables of marks put to rest. Long for its parameters, one a line.
 fn decode_marks(
     detectors: usize,
     observables: usize,
@@ -95,7 +95,7 @@ fn decode_marks(
     )
 }
 
-// Those of clusters, and then those of marks.
+// Those of clusters, and then those of marks. Long for its parameters, one a line.
 fn decode_clusters(
     parent: &mut [u32],
     odd: &mut [bool],
@@ -178,7 +178,7 @@ fn decode_clusters(
     )
 }
 
-// Those of growth, and then the others.
+// Those of growth, and then the others. Long for its parameters, one a line.
 fn decode_growth(
     lit: &mut [bool],
     growth: &mut [f64],
