@@ -10,6 +10,7 @@ ghost use Rattle.calls.specs.Call.{lentOf};
 ghost use lib.ListN.{length};
 ghost use Rattle.scratch.specs.Scratch.{lengthsOf};
 ghost use Rattle.decoder.specs.Answer.{handed, Decodes};
+ghost use Rattle.batch.specs.Batch as batched;
 ghost use Rattle.marker.specs.Answer.{Marks};
 ghost use Rattle.dem.specs.Positions.{tables};
 ghost use Rattle.decomposed.specs.Call as decomposition;
@@ -526,5 +527,85 @@ pub extern "C" fn pavrenni_decompose(
         words0,
         words1,
         earlier,
+    ))
+}
+
+// Packed shots decoded, a row each. Long for its parameters, one a line.
+#[no_mangle]
+pub extern "C" fn pavrenni_decode_batch(
+    out: &mut [u64],
+    list: &mut [u32],
+    adj_offsets: &mut [u32],
+    adj_edge: &mut [u32],
+    adj_far: &mut [u32],
+    defects: &mut [u32],
+    seen: &mut [u32],
+    active: &mut [u32],
+    front: &mut [u32],
+    touched: &mut [u32],
+    cnt: &mut [u8],
+    fresh: &mut [u32],
+    order_edge: &mut [u32],
+    order_parent: &mut [u32],
+    lit: &mut [bool],
+    growth: &mut [f64],
+    sat: &mut [bool],
+    known: &mut [bool],
+    parent: &mut [u32],
+    odd: &mut [bool],
+    boundary_edge: &mut [u32],
+    hot: &mut [bool],
+    free: &mut [bool],
+    live: &mut [bool],
+    bits: &mut [u64],
+    detectors: usize,
+    observables: usize,
+    edges: usize,
+    edge_u: &[u32],
+    edge_v: &[u32],
+    edge_weight: &[f64],
+    edge_obs: &[u64],
+    rows: &[u64],
+    shots: usize,
+    width: usize,
+) -> BatchWords
+    ensures { λ r. ⌜ InWords wordsOfBatch (λ a. batched.Decodes (batched.handed (lentOf detectors observables edges (now («edge_u» .entry)) (now («edge_v» .entry)) (now («edge_weight» .entry)) (now («edge_obs» .entry))) (now (rows .entry)) shots width (now (out .entry)) (length (now (list .entry))) (lengthsOf (length (now («adj_offsets» .entry))) (length (now («adj_edge» .entry))) (length (now («adj_far» .entry))) (length (now (defects .entry))) (length (now (seen .entry))) (length (now (active .entry))) (length (now (front .entry))) (length (now (touched .entry))) (length (now (cnt .entry))) (length (now (fresh .entry))) (length (now («order_edge» .entry))) (length (now («order_parent» .entry))) (length (now (lit .entry))) (length (now (growth .entry))) (length (now (sat .entry))) (length (now (known .entry))) (length (now (parent .entry))) (length (now (odd .entry))) (length (now («boundary_edge» .entry))) (length (now (hot .entry))) (length (now (free .entry))) (length (now (live .entry))) (length (now (bits .entry))))) a (now (out .exit))) r ⌝ }
+{
+    batch_words(batch::decode_batch(
+        detectors,
+        observables,
+        edges,
+        out,
+        list,
+        adj_offsets,
+        adj_edge,
+        adj_far,
+        defects,
+        seen,
+        active,
+        front,
+        touched,
+        cnt,
+        fresh,
+        order_edge,
+        order_parent,
+        lit,
+        growth,
+        sat,
+        known,
+        parent,
+        odd,
+        boundary_edge,
+        hot,
+        free,
+        live,
+        bits,
+        edge_u,
+        edge_v,
+        edge_weight,
+        edge_obs,
+        rows,
+        shots,
+        width,
     ))
 }
