@@ -13,4 +13,5 @@ missing() {
 command -v cargo >/dev/null 2>&1 || missing "no cargo"
 [ -f "$reference/src/qec/decoder.rs" ] || missing "no published source at $reference (PAVRENNI_REFERENCE)"
 [ -f "$library" ] || missing "no $library (rt staticlib server, or PAVRENNI_LIB_DIR)"
+grep -q pavrenni_rate "$library" || missing "$library does not export the rate, which the comparison calls"
 exec "$here/run" quick "$@"
