@@ -1,4 +1,5 @@
 -- `finish::finish` meets its contract. Assumes nothing.
+use native.Mathlib.Omega.{arith}
 use Rattle.finish.proofs.Ends.{edges, places, finished}
 use borrow.Author.Needs.{needs}
 use borrow.Author.Needs.{needs}
@@ -14,7 +15,7 @@ xor-edge-observables-requires : tie.Need-xor-edge-observables-requires
 xor-edge-observables-requires c κs =
     let pre = c .before .before .before .before .before .before .before .before .before .before .before .before .before .before .before .before .before .before .before .before .before .before .before .before .before .before .before .before .before .before .before .before .before .before .before .before .before .before .before .before .before .before .before .before .before .before .pre in
     let peel-all = c .before .before .before .before .before .before .before .before .before .before .before .before .before .before .before .before .before .before .peel-all in
-    edges (pre .0) (pre .1 .1 .0) (pre .1 .1 .1 .0) (pre .1 .1 .1 .1) (peel-all .ensures .0)
+    edges (pre .0) (pre .1 .1 .0) (pre .1 .1 .1 .0) (pre .1 .1 .1 .1) (peel-all .ensures .0) _ (omega arith)
 
 paint-requires : tie.Need-paint-requires
 paint-requires c κs =

@@ -37,7 +37,7 @@ compress-requires : tie.Need-compress-requires Inv-loop μ-loop
 compress-requires c κs = (c .before .before .before .loop .inv .2, (c .before .before .before .before .before .before .before .before .before .pre .inside (c .before .before .before .loop .i) (omega arith), c .before .before .before .before .before .before .before .before .before .pre .small))
 
 shared-slice-read-h : tie.Need-shared-slice-read-h Inv-loop μ-loop
-shared-slice-read-h c = omega (arith, c .before .before .before .before .before .before .before .before .before .before .before .before .before .pre .hots, c .before .before .before .compress .ensures .inside)
+shared-slice-read-h c = omega (arith, c .before .before .before .before .before .before .before .before .before .before .before .before .before .pre .hots, c .before .before .before .compress .ensures .inside, c .before .before .before .before .before .before .before .before .before .before .before .before .before .pre .inside (c .before .before .before .before .before .before .before .loop .i) (omega arith))
 
 slice-write-live : tie.Need-slice-write-live Inv-loop μ-loop
 slice-write-live c = omega (arith, c .before .before .before .before .before .before .before .before .before .before .before .before .before .pre .lives, c .before .before .before .before .before .before .before .loop .inv .5, c .before .before .before .before .before .before .before .before .before .before .before .before .before .pre .inside (c .before .before .before .before .before .before .before .loop .i) (omega arith))
