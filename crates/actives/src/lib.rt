@@ -1,7 +1,7 @@
 // The clusters that are still active after a round, in order.
 ghost use Prim.Native.Nat.{ℕ, zero, suc, _+_, _*_, _<_, _≤_};
 ghost use mathlib.Core.Path.{_≡_};
-ghost use mathlib.Core.Bool.{Bool, true, false, not, _&&_};
+ghost use mathlib.Core.Bool.{Bool, true, false, not, _&&_, _||_};
 ghost use lib.ListN.{length, getD, take};
 ghost use lib.Dec.{eqb};
 ghost use Rattle.actives.specs.Actives.{Cooling, Cooled, Staying, Stayed};
@@ -35,7 +35,17 @@ pub fn goes_on(hot: bool, odd: bool, boundary_edge: u32) -> bool
     false
 }
 
-// Each cluster's root now, at its first place only, if it is odd and has no exit.
+// Whether one of the two holds.
+pub fn either(a: bool, b: bool) -> bool
+    ensures { λ r. ⌜ r ≡ (a || b) ⌝ }
+{
+    if a {
+        return true;
+    }
+    b
+}
+
+// Each cluster's root now, at its first place only, if it is odd and has no exit. Both stores are made for every cluster, since whether one goes on cannot be foretold.
 pub fn still(
     d: usize,
     active: &mut [u32],
@@ -54,10 +64,11 @@ pub fn still(
         let x = active[i] as usize;
         i += 1;
         let r = forest::find(d, parent, x);
-        let keep = goes_on(hot[r], odd[r], boundary_edge[r]);
+        let h = hot[r];
+        let keep = goes_on(h, odd[r], boundary_edge[r]);
+        hot[r] = either(h, keep);
+        active[k] = r as u32;
         if keep {
-            hot[r] = true;
-            active[k] = r as u32;
             k += 1;
         }
     }

@@ -1,11 +1,11 @@
 use Prim.Native.Nat.{ℕ, suc, _-_, _+_, _*_, _≤_, _<_}
 use mathlib.Core.Path.{_≡_, refl, sym, ap, ap₂, _∙_}
 use mathlib.Core.List.{List, [], _∷_, _++_, map}
-use mathlib.Core.Bool.{Bool, true, false, cond, not, _&&_, _||_, or-false, xor}
+use mathlib.Core.Bool.{Bool, true, false, cond, not, _&&_, _||_, or-false, or-true, xor}
 use native.Mathlib.Omega.{arith}
 use lib.Dec.{eqb}
 use lib.ListN.{length, getD, set, take, length-set}
-use lib.Seq.{getD-set-other}
+use lib.Seq.{getD-set-other, set-getD, take-set-le}
 use Rattle.lists.specs.Lists.{member, filter, firsts}
 use native.Mathlib.Nat.{not-suc-le-zero, le-refl}
 use mathlib.Core.Logic.{⊎-elim}
@@ -44,8 +44,8 @@ add-i c = omega (arith, c .before .before .before .before .before .before .befor
 find-requires : tie.Need-find-requires Inv-loop μ-loop
 find-requires c κs = (c .before .before .before .loop .inv .2, omega (arith, c .before .before .before .loop .inv .7 (c .before .before .before .loop .i) (omega arith), c .before .before .before .before .before .before .before .before .before .pre .inside (c .before .before .before .loop .i) (omega arith)))
 
-slice-read-goes-on : tie.Need-slice-read-goes-on Inv-loop μ-loop
-slice-read-goes-on c = omega (arith, c .before .before .before .before .before .before .before .before .before .before .before .before .before .pre .hots, c .before .before .before .before .before .before .before .loop .inv .6, c .before .before .before .find .ensures .inside)
+slice-read-h : tie.Need-slice-read-h Inv-loop μ-loop
+slice-read-h c = omega (arith, c .before .before .before .before .before .before .before .before .before .before .before .before .before .pre .hots, c .before .before .before .before .before .before .before .loop .inv .6, c .before .before .before .find .ensures .inside)
 
 shared-slice-read-goes-on : tie.Need-shared-slice-read-goes-on Inv-loop μ-loop
 shared-slice-read-goes-on c = omega (arith, c .before .before .before .before .before .before .before .before .before .before .before .before .before .before .pre .odds, c .before .before .before .before .find .ensures .inside)
@@ -58,6 +58,9 @@ shared-slice-read-goes-on-2 c = omega (arith, c .before .before .before .before 
 
 goes-on-requires : tie.Need-goes-on-requires Inv-loop μ-loop
 goes-on-requires c κs = tt
+
+either-requires : tie.Need-either-requires Inv-loop μ-loop
+either-requires c κs = tt
 
 slice-write-hot : tie.Need-slice-write-hot Inv-loop μ-loop
 slice-write-hot c = omega (arith, c .before .before .before .before .before .before .before .before .before .before .before .before .before .before .before .before .before .pre .hots, c .before .before .before .before .before .before .before .before .before .before .before .loop .inv .6, c .before .before .before .before .before .before .before .find .ensures .inside)
@@ -72,7 +75,7 @@ slice-write-active : tie.Need-slice-write-active Inv-loop μ-loop
 slice-write-active c = omega (arith, c .before .before .before .before .before .before .before .before .before .before .before .before .before .before .before .before .before .pre .actives, c .before .before .before .before .before .before .before .before .before .before .before .loop .inv .4)
 
 add-k : tie.Need-add-k Inv-loop μ-loop
-add-k c = omega (arith, c .before .before .before .before .before .before .before .before .before .before .before .before .before .before .before .before .before .pre .actives)
+add-k c = omega (arith, c .before .before .before .before .before .before .before .before .before .before .before .before .before .before .before .before .before .before .pre .actives)
 
 loop-less : tie.Need-loop-less Inv-loop μ-loop
 loop-less c = omega arith
@@ -81,15 +84,15 @@ loop-again : tie.Need-loop-again Inv-loop μ-loop
 loop-again c = (
   omega arith,
   omega arith,
-  c .before .before .before .before .before .before .before .find .ensures .down,
-  c .before .before .before .before .before .before .before .find .ensures .kept ∙ c .before .before .before .before .before .before .before .before .before .before .before .loop .inv .3,
-  simp length-set (c .before .before .before .before .before .before .before .before .before .before .before .loop .inv .4),
-  c .before .before .before .before .before .before .before .find .kept .1 .0 ∙ c .before .before .before .before .before .before .before .before .before .before .before .loop .inv .5,
-  simp length-set (c .before .before .before .before .before .before .before .before .before .before .before .loop .inv .6),
-  (λ j h. getD-set-other (c .before .before .before .before .before .before .before .before .before .before .before .loop .active) (c .before .before .before .before .before .before .before .before .before .before .before .loop .k) j (c .before .before .before .before .before .before .before .find .result) 0 (λ z. omega arith) ∙ c .before .before .before .before .before .before .before .before .before .before .before .loop .inv .7 j (omega arith)),
-  put-next (c .before .before .before .before .before .before .before .before .before .before .before .loop .active) (c .before .before .before .before .before .before .before .before .before .before .before .loop .k) (c .before .before .before .before .before .before .before .find .result) (omega (arith, c .before .before .before .before .before .before .before .before .before .before .before .before .before .before .before .before .before .pre .actives, c .before .before .before .before .before .before .before .before .before .before .before .loop .inv .4)) ∙ ap₂ (λ (m : List ℕ) (z : ℕ). m ++ (z ∷ [])) (c .before .before .before .before .before .before .before .before .before .before .before .loop .inv .8) (c .before .before .before .before .before .before .before .find .ensures .is ∙ ap (λ (m : List ℕ). getD m (getD (c .before .before .before .before .before .before .before .before .before .before .before .loop .active) (c .before .before .before .before .before .before .before .before .before .before .before .loop .i) 0) 0) (c .before .before .before .before .before .before .before .before .before .before .before .loop .inv .3) ∙ ap (λ x. getD (labels (c .before .before .before .before .before .before .before .before .before .before .before .before .before .before .before .before .before .args .d) (c .before .before .before .before .before .before .before .before .before .before .before .before .before .before .before .before .before .args .parent .now)) x 0) (c .before .before .before .before .before .before .before .before .before .before .before .loop .inv .7 (c .before .before .before .before .before .before .before .before .before .before .before .loop .i) (omega arith))) ∙ sym (out-keep (isOn (c .before .before .before .before .before .before .before .before .before .before .before .before .before .before .before .before .before .args .odd .now) (c .before .before .before .before .before .before .before .before .before .before .before .before .before .before .before .before .before .args .boundary-edge .now)) (λ x. getD (labels (c .before .before .before .before .before .before .before .before .before .before .before .before .before .before .before .before .before .args .d) (c .before .before .before .before .before .before .before .before .before .before .before .before .before .before .before .before .before .args .parent .now)) x 0) (c .before .before .before .before .before .before .before .before .before .before .before .before .before .before .before .before .before .args .active .now) (c .before .before .before .before .before .before .before .before .before .before .before .loop .i) (omega (arith, c .before .before .before .before .before .before .before .before .before .before .before .before .before .before .before .before .before .pre .actives)) (sym (c .before .goes-on .ensures ∙ ap (λ t. not t && (isOn (c .before .before .before .before .before .before .before .before .before .before .before .before .before .before .before .before .before .args .odd .now) (c .before .before .before .before .before .before .before .before .before .before .before .before .before .before .before .before .before .args .boundary-edge .now)) (c .before .before .before .before .before .before .before .find .result)) (c .before .before .before .before .before .before .before .before .before .before .before .loop .inv .9 (c .before .before .before .before .before .before .before .find .result) (c .before .before .before .before .before .before .before .find .ensures .inside) ∙ ap (member (c .before .before .before .before .before .before .before .find .result)) (c .before .before .before .before .before .before .before .before .before .before .before .loop .inv .8)) ∙ ap (λ z. not (member z (onward (c .before .before .before .before .before .before .before .before .before .before .before .before .before .before .before .before .before .args .d) (c .before .before .before .before .before .before .before .before .before .before .before .before .before .before .before .before .before .args .parent .now) (c .before .before .before .before .before .before .before .before .before .before .before .before .before .before .before .before .before .args .odd .now) (c .before .before .before .before .before .before .before .before .before .before .before .before .before .before .before .before .before .args .boundary-edge .now) (take (c .before .before .before .before .before .before .before .before .before .before .before .loop .i) (c .before .before .before .before .before .before .before .before .before .before .before .before .before .before .before .before .before .args .active .now)))) && (isOn (c .before .before .before .before .before .before .before .before .before .before .before .before .before .before .before .before .before .args .odd .now) (c .before .before .before .before .before .before .before .before .before .before .before .before .before .before .before .before .before .args .boundary-edge .now)) z) (c .before .before .before .before .before .before .before .find .ensures .is ∙ ap (λ (m : List ℕ). getD m (getD (c .before .before .before .before .before .before .before .before .before .before .before .loop .active) (c .before .before .before .before .before .before .before .before .before .before .before .loop .i) 0) 0) (c .before .before .before .before .before .before .before .before .before .before .before .loop .inv .3) ∙ ap (λ x. getD (labels (c .before .before .before .before .before .before .before .before .before .before .before .before .before .before .before .before .before .args .d) (c .before .before .before .before .before .before .before .before .before .before .before .before .before .before .before .before .before .args .parent .now)) x 0) (c .before .before .before .before .before .before .before .before .before .before .before .loop .inv .7 (c .before .before .before .before .before .before .before .before .before .before .before .loop .i) (omega arith)))) ∙ c .if1 .taken)),
-  hot-turn (c .before .before .before .before .before .before .before .before .before .before .before .loop .hot) (c .before .before .before .before .before .before .before .before .before .before .before .loop .active) (c .before .before .before .before .before .before .before .before .before .before .before .loop .k) (c .before .before .before .before .before .before .before .find .result) (c .before .before .before .before .before .before .before .before .before .before .before .before .before .before .before .before .before .args .d) (omega (arith, c .before .before .before .before .before .before .before .before .before .before .before .before .before .before .before .before .before .pre .actives, c .before .before .before .before .before .before .before .before .before .before .before .loop .inv .4)) (omega (arith, c .before .before .before .before .before .before .before .before .before .before .before .before .before .before .before .before .before .pre .hots, c .before .before .before .before .before .before .before .before .before .before .before .loop .inv .6, c .before .before .before .before .before .before .before .find .ensures .inside)) (c .before .before .before .before .before .before .before .before .before .before .before .loop .inv .9),
-  (λ j h. ⊎-elim (λ z. rw (z .1) (c .before .before .before .before .before .before .before .find .ensures .inside)) (λ z. rw (z .1) (c .before .before .before .before .before .before .before .before .before .before .before .loop .inv .10 j (omega (arith, z .0)))) (at-set (c .before .before .before .before .before .before .before .before .before .before .before .loop .active) (c .before .before .before .before .before .before .before .before .before .before .before .loop .k) (c .before .before .before .before .before .before .before .find .result) 0 j (omega (arith, c .before .before .before .before .before .before .before .before .before .before .before .before .before .before .before .before .before .pre .actives, c .before .before .before .before .before .before .before .before .before .before .before .loop .inv .4)))),
+  c .before .before .before .before .before .before .before .before .find .ensures .down,
+  c .before .before .before .before .before .before .before .before .find .ensures .kept ∙ c .before .before .before .before .before .before .before .before .before .before .before .before .loop .inv .3,
+  simp length-set (c .before .before .before .before .before .before .before .before .before .before .before .before .loop .inv .4),
+  c .before .before .before .before .before .before .before .before .find .kept .1 .0 ∙ c .before .before .before .before .before .before .before .before .before .before .before .before .loop .inv .5,
+  (simp length-set (c .before .before .before .before .before .before .before .before .before .before .before .before .loop .inv .6)),
+  (λ j h. getD-set-other (c .before .before .before .before .before .before .before .before .before .before .before .before .loop .active) (c .before .before .before .before .before .before .before .before .before .before .before .before .loop .k) j (c .before .before .before .before .before .before .before .before .find .result) 0 (λ z. omega arith) ∙ c .before .before .before .before .before .before .before .before .before .before .before .before .loop .inv .7 j (omega arith)),
+  put-next (c .before .before .before .before .before .before .before .before .before .before .before .before .loop .active) (c .before .before .before .before .before .before .before .before .before .before .before .before .loop .k) (c .before .before .before .before .before .before .before .before .find .result) (omega (arith, c .before .before .before .before .before .before .before .before .before .before .before .before .before .before .before .before .before .before .pre .actives, c .before .before .before .before .before .before .before .before .before .before .before .before .loop .inv .4)) ∙ ap₂ (λ (m : List ℕ) (z : ℕ). m ++ (z ∷ [])) (c .before .before .before .before .before .before .before .before .before .before .before .before .loop .inv .8) (c .before .before .before .before .before .before .before .before .find .ensures .is ∙ ap (λ (m : List ℕ). getD m (getD (c .before .before .before .before .before .before .before .before .before .before .before .before .loop .active) (c .before .before .before .before .before .before .before .before .before .before .before .before .loop .i) 0) 0) (c .before .before .before .before .before .before .before .before .before .before .before .before .loop .inv .3) ∙ ap (λ x. getD (labels (c .before .before .before .before .before .before .before .before .before .before .before .before .before .before .before .before .before .before .args .d) (c .before .before .before .before .before .before .before .before .before .before .before .before .before .before .before .before .before .before .args .parent .now)) x 0) (c .before .before .before .before .before .before .before .before .before .before .before .before .loop .inv .7 (c .before .before .before .before .before .before .before .before .before .before .before .before .loop .i) (omega arith))) ∙ sym (out-keep (isOn (c .before .before .before .before .before .before .before .before .before .before .before .before .before .before .before .before .before .before .args .odd .now) (c .before .before .before .before .before .before .before .before .before .before .before .before .before .before .before .before .before .before .args .boundary-edge .now)) (λ x. getD (labels (c .before .before .before .before .before .before .before .before .before .before .before .before .before .before .before .before .before .before .args .d) (c .before .before .before .before .before .before .before .before .before .before .before .before .before .before .before .before .before .before .args .parent .now)) x 0) (c .before .before .before .before .before .before .before .before .before .before .before .before .before .before .before .before .before .before .args .active .now) (c .before .before .before .before .before .before .before .before .before .before .before .before .loop .i) (omega (arith, c .before .before .before .before .before .before .before .before .before .before .before .before .before .before .before .before .before .before .pre .actives)) (sym (c .before .before .goes-on .ensures ∙ ap (λ t. not t && (isOn (c .before .before .before .before .before .before .before .before .before .before .before .before .before .before .before .before .before .before .args .odd .now) (c .before .before .before .before .before .before .before .before .before .before .before .before .before .before .before .before .before .before .args .boundary-edge .now)) (c .before .before .before .before .before .before .before .before .find .result)) (c .before .before .before .before .before .before .before .before .before .before .before .before .loop .inv .9 (c .before .before .before .before .before .before .before .before .find .result) (c .before .before .before .before .before .before .before .before .find .ensures .inside) ∙ ap (member (c .before .before .before .before .before .before .before .before .find .result)) (c .before .before .before .before .before .before .before .before .before .before .before .before .loop .inv .8)) ∙ ap (λ z. not (member z (onward (c .before .before .before .before .before .before .before .before .before .before .before .before .before .before .before .before .before .before .args .d) (c .before .before .before .before .before .before .before .before .before .before .before .before .before .before .before .before .before .before .args .parent .now) (c .before .before .before .before .before .before .before .before .before .before .before .before .before .before .before .before .before .before .args .odd .now) (c .before .before .before .before .before .before .before .before .before .before .before .before .before .before .before .before .before .before .args .boundary-edge .now) (take (c .before .before .before .before .before .before .before .before .before .before .before .before .loop .i) (c .before .before .before .before .before .before .before .before .before .before .before .before .before .before .before .before .before .before .args .active .now)))) && (isOn (c .before .before .before .before .before .before .before .before .before .before .before .before .before .before .before .before .before .before .args .odd .now) (c .before .before .before .before .before .before .before .before .before .before .before .before .before .before .before .before .before .before .args .boundary-edge .now)) z) (c .before .before .before .before .before .before .before .before .find .ensures .is ∙ ap (λ (m : List ℕ). getD m (getD (c .before .before .before .before .before .before .before .before .before .before .before .before .loop .active) (c .before .before .before .before .before .before .before .before .before .before .before .before .loop .i) 0) 0) (c .before .before .before .before .before .before .before .before .before .before .before .before .loop .inv .3) ∙ ap (λ x. getD (labels (c .before .before .before .before .before .before .before .before .before .before .before .before .before .before .before .before .before .before .args .d) (c .before .before .before .before .before .before .before .before .before .before .before .before .before .before .before .before .before .before .args .parent .now)) x 0) (c .before .before .before .before .before .before .before .before .before .before .before .before .loop .inv .7 (c .before .before .before .before .before .before .before .before .before .before .before .before .loop .i) (omega arith)))) ∙ c .if1 .taken)),
+  rw (c .before .either .ensures ∙ ap (λ t. getD (c .before .before .before .before .before .before .before .before .before .before .before .before .loop .hot) (c .before .before .before .before .before .before .before .before .find .result) false || t) (c .if1 .taken) ∙ or-true (getD (c .before .before .before .before .before .before .before .before .before .before .before .before .loop .hot) (c .before .before .before .before .before .before .before .before .find .result) false)) (hot-turn (c .before .before .before .before .before .before .before .before .before .before .before .before .loop .hot) (c .before .before .before .before .before .before .before .before .before .before .before .before .loop .active) (c .before .before .before .before .before .before .before .before .before .before .before .before .loop .k) (c .before .before .before .before .before .before .before .before .find .result) (c .before .before .before .before .before .before .before .before .before .before .before .before .before .before .before .before .before .before .args .d) (omega (arith, c .before .before .before .before .before .before .before .before .before .before .before .before .before .before .before .before .before .before .pre .actives, c .before .before .before .before .before .before .before .before .before .before .before .before .loop .inv .4)) (omega (arith, c .before .before .before .before .before .before .before .before .before .before .before .before .before .before .before .before .before .before .pre .hots, c .before .before .before .before .before .before .before .before .before .before .before .before .loop .inv .6, c .before .before .before .before .before .before .before .before .find .ensures .inside)) (c .before .before .before .before .before .before .before .before .before .before .before .before .loop .inv .9)),
+  (λ j h. ⊎-elim (λ z. rw (z .1) (c .before .before .before .before .before .before .before .before .find .ensures .inside)) (λ z. rw (z .1) (c .before .before .before .before .before .before .before .before .before .before .before .before .loop .inv .10 j (omega (arith, z .0)))) (at-set (c .before .before .before .before .before .before .before .before .before .before .before .before .loop .active) (c .before .before .before .before .before .before .before .before .before .before .before .before .loop .k) (c .before .before .before .before .before .before .before .before .find .result) 0 j (omega (arith, c .before .before .before .before .before .before .before .before .before .before .before .before .before .before .before .before .before .before .pre .actives, c .before .before .before .before .before .before .before .before .before .before .before .before .loop .inv .4)))),
 )
 
 loop-less-2 : tie.Need-loop-less-2 Inv-loop μ-loop
@@ -99,15 +102,15 @@ loop-again-2 : tie.Need-loop-again-2 Inv-loop μ-loop
 loop-again-2 c = (
   omega arith,
   omega arith,
-  c .before .before .before .before .before .before .before .find .ensures .down,
-  c .before .before .before .before .before .before .before .find .ensures .kept ∙ c .before .before .before .before .before .before .before .before .before .before .before .loop .inv .3,
-  c .before .before .before .before .before .before .before .before .before .before .before .loop .inv .4,
-  c .before .before .before .before .before .before .before .find .kept .1 .0 ∙ c .before .before .before .before .before .before .before .before .before .before .before .loop .inv .5,
-  c .before .before .before .before .before .before .before .before .before .before .before .loop .inv .6,
-  (λ j h. c .before .before .before .before .before .before .before .before .before .before .before .loop .inv .7 j (omega arith)),
-  c .before .before .before .before .before .before .before .before .before .before .before .loop .inv .8 ∙ sym (out-skip (isOn (c .before .before .before .before .before .before .before .before .before .before .before .before .before .before .before .before .before .args .odd .now) (c .before .before .before .before .before .before .before .before .before .before .before .before .before .before .before .before .before .args .boundary-edge .now)) (λ x. getD (labels (c .before .before .before .before .before .before .before .before .before .before .before .before .before .before .before .before .before .args .d) (c .before .before .before .before .before .before .before .before .before .before .before .before .before .before .before .before .before .args .parent .now)) x 0) (c .before .before .before .before .before .before .before .before .before .before .before .before .before .before .before .before .before .args .active .now) (c .before .before .before .before .before .before .before .before .before .before .before .loop .i) (omega (arith, c .before .before .before .before .before .before .before .before .before .before .before .before .before .before .before .before .before .pre .actives)) (sym (c .before .goes-on .ensures ∙ ap (λ t. not t && (isOn (c .before .before .before .before .before .before .before .before .before .before .before .before .before .before .before .before .before .args .odd .now) (c .before .before .before .before .before .before .before .before .before .before .before .before .before .before .before .before .before .args .boundary-edge .now)) (c .before .before .before .before .before .before .before .find .result)) (c .before .before .before .before .before .before .before .before .before .before .before .loop .inv .9 (c .before .before .before .before .before .before .before .find .result) (c .before .before .before .before .before .before .before .find .ensures .inside) ∙ ap (member (c .before .before .before .before .before .before .before .find .result)) (c .before .before .before .before .before .before .before .before .before .before .before .loop .inv .8)) ∙ ap (λ z. not (member z (onward (c .before .before .before .before .before .before .before .before .before .before .before .before .before .before .before .before .before .args .d) (c .before .before .before .before .before .before .before .before .before .before .before .before .before .before .before .before .before .args .parent .now) (c .before .before .before .before .before .before .before .before .before .before .before .before .before .before .before .before .before .args .odd .now) (c .before .before .before .before .before .before .before .before .before .before .before .before .before .before .before .before .before .args .boundary-edge .now) (take (c .before .before .before .before .before .before .before .before .before .before .before .loop .i) (c .before .before .before .before .before .before .before .before .before .before .before .before .before .before .before .before .before .args .active .now)))) && (isOn (c .before .before .before .before .before .before .before .before .before .before .before .before .before .before .before .before .before .args .odd .now) (c .before .before .before .before .before .before .before .before .before .before .before .before .before .before .before .before .before .args .boundary-edge .now)) z) (c .before .before .before .before .before .before .before .find .ensures .is ∙ ap (λ (m : List ℕ). getD m (getD (c .before .before .before .before .before .before .before .before .before .before .before .loop .active) (c .before .before .before .before .before .before .before .before .before .before .before .loop .i) 0) 0) (c .before .before .before .before .before .before .before .before .before .before .before .loop .inv .3) ∙ ap (λ x. getD (labels (c .before .before .before .before .before .before .before .before .before .before .before .before .before .before .before .before .before .args .d) (c .before .before .before .before .before .before .before .before .before .before .before .before .before .before .before .before .before .args .parent .now)) x 0) (c .before .before .before .before .before .before .before .before .before .before .before .loop .inv .7 (c .before .before .before .before .before .before .before .before .before .before .before .loop .i) (omega arith)))) ∙ c .if1 .left)),
-  c .before .before .before .before .before .before .before .before .before .before .before .loop .inv .9,
-  c .before .before .before .before .before .before .before .before .before .before .before .loop .inv .10,
+  c .before .before .before .before .before .before .before .before .find .ensures .down,
+  c .before .before .before .before .before .before .before .before .find .ensures .kept ∙ c .before .before .before .before .before .before .before .before .before .before .before .before .loop .inv .3,
+  simp length-set (c .before .before .before .before .before .before .before .before .before .before .before .before .loop .inv .4),
+  c .before .before .before .before .before .before .before .before .find .kept .1 .0 ∙ c .before .before .before .before .before .before .before .before .before .before .before .before .loop .inv .5,
+  simp length-set (c .before .before .before .before .before .before .before .before .before .before .before .before .loop .inv .6),
+  (λ j h. getD-set-other (c .before .before .before .before .before .before .before .before .before .before .before .before .loop .active) (c .before .before .before .before .before .before .before .before .before .before .before .before .loop .k) j (c .before .before .before .before .before .before .before .before .find .result) 0 (λ z. omega arith) ∙ c .before .before .before .before .before .before .before .before .before .before .before .before .loop .inv .7 j (omega arith)),
+  take-set-le (c .before .before .before .before .before .before .before .before .before .before .before .before .loop .k) (c .before .before .before .before .before .before .before .before .before .before .before .before .loop .active) (c .before .before .before .before .before .before .before .before .before .before .before .before .loop .k) (c .before .before .before .before .before .before .before .before .find .result) (omega arith) ∙ c .before .before .before .before .before .before .before .before .before .before .before .before .loop .inv .8 ∙ sym (out-skip (isOn (c .before .before .before .before .before .before .before .before .before .before .before .before .before .before .before .before .before .before .args .odd .now) (c .before .before .before .before .before .before .before .before .before .before .before .before .before .before .before .before .before .before .args .boundary-edge .now)) (λ x. getD (labels (c .before .before .before .before .before .before .before .before .before .before .before .before .before .before .before .before .before .before .args .d) (c .before .before .before .before .before .before .before .before .before .before .before .before .before .before .before .before .before .before .args .parent .now)) x 0) (c .before .before .before .before .before .before .before .before .before .before .before .before .before .before .before .before .before .before .args .active .now) (c .before .before .before .before .before .before .before .before .before .before .before .before .loop .i) (omega (arith, c .before .before .before .before .before .before .before .before .before .before .before .before .before .before .before .before .before .before .pre .actives)) (sym (c .before .before .goes-on .ensures ∙ ap (λ t. not t && (isOn (c .before .before .before .before .before .before .before .before .before .before .before .before .before .before .before .before .before .before .args .odd .now) (c .before .before .before .before .before .before .before .before .before .before .before .before .before .before .before .before .before .before .args .boundary-edge .now)) (c .before .before .before .before .before .before .before .before .find .result)) (c .before .before .before .before .before .before .before .before .before .before .before .before .loop .inv .9 (c .before .before .before .before .before .before .before .before .find .result) (c .before .before .before .before .before .before .before .before .find .ensures .inside) ∙ ap (member (c .before .before .before .before .before .before .before .before .find .result)) (c .before .before .before .before .before .before .before .before .before .before .before .before .loop .inv .8)) ∙ ap (λ z. not (member z (onward (c .before .before .before .before .before .before .before .before .before .before .before .before .before .before .before .before .before .before .args .d) (c .before .before .before .before .before .before .before .before .before .before .before .before .before .before .before .before .before .before .args .parent .now) (c .before .before .before .before .before .before .before .before .before .before .before .before .before .before .before .before .before .before .args .odd .now) (c .before .before .before .before .before .before .before .before .before .before .before .before .before .before .before .before .before .before .args .boundary-edge .now) (take (c .before .before .before .before .before .before .before .before .before .before .before .before .loop .i) (c .before .before .before .before .before .before .before .before .before .before .before .before .before .before .before .before .before .before .args .active .now)))) && (isOn (c .before .before .before .before .before .before .before .before .before .before .before .before .before .before .before .before .before .before .args .odd .now) (c .before .before .before .before .before .before .before .before .before .before .before .before .before .before .before .before .before .before .args .boundary-edge .now)) z) (c .before .before .before .before .before .before .before .before .find .ensures .is ∙ ap (λ (m : List ℕ). getD m (getD (c .before .before .before .before .before .before .before .before .before .before .before .before .loop .active) (c .before .before .before .before .before .before .before .before .before .before .before .before .loop .i) 0) 0) (c .before .before .before .before .before .before .before .before .before .before .before .before .loop .inv .3) ∙ ap (λ x. getD (labels (c .before .before .before .before .before .before .before .before .before .before .before .before .before .before .before .before .before .before .args .d) (c .before .before .before .before .before .before .before .before .before .before .before .before .before .before .before .before .before .before .args .parent .now)) x 0) (c .before .before .before .before .before .before .before .before .before .before .before .before .loop .inv .7 (c .before .before .before .before .before .before .before .before .before .before .before .before .loop .i) (omega arith)))) ∙ c .if1 .left)),
+  rw (c .before .either .ensures ∙ ap (λ t. getD (c .before .before .before .before .before .before .before .before .before .before .before .before .loop .hot) (c .before .before .before .before .before .before .before .before .find .result) false || t) (c .if1 .left) ∙ or-false (getD (c .before .before .before .before .before .before .before .before .before .before .before .before .loop .hot) (c .before .before .before .before .before .before .before .before .find .result) false), set-getD (c .before .before .before .before .before .before .before .before .before .before .before .before .loop .hot) (c .before .before .before .before .before .before .before .before .find .result) false, take-set-le (c .before .before .before .before .before .before .before .before .before .before .before .before .loop .k) (c .before .before .before .before .before .before .before .before .before .before .before .before .loop .active) (c .before .before .before .before .before .before .before .before .before .before .before .before .loop .k) (c .before .before .before .before .before .before .before .before .find .result) (omega arith)) (c .before .before .before .before .before .before .before .before .before .before .before .before .loop .inv .9),
+  (λ j h. rw (getD-set-other (c .before .before .before .before .before .before .before .before .before .before .before .before .loop .active) (c .before .before .before .before .before .before .before .before .before .before .before .before .loop .k) j (c .before .before .before .before .before .before .before .before .find .result) 0 (λ z. omega arith)) (c .before .before .before .before .before .before .before .before .before .before .before .before .loop .inv .10 j h)),
 )
 
 same-length : tie.Need-same-length Inv-loop μ-loop
@@ -134,11 +137,12 @@ still-spec =
     cast-x
     add-i
     find-requires
-    slice-read-goes-on
+    slice-read-h
     shared-slice-read-goes-on
     mul-goes-on
     shared-slice-read-goes-on-2
     goes-on-requires
+    either-requires
     slice-write-hot
     cast-active
     mul-active
