@@ -52,6 +52,12 @@ pub fn decode_clean(
     ensures rests { λ _. ⌜ Clean detectors (length (now («edge_u» .entry))) (now (lit .exit)) (now (growth .exit)) (now (sat .exit)) (now (known .exit)) (now (parent .exit)) (now (odd .exit)) (now («boundary_edge» .exit)) (now (hot .exit)) (now (free .exit)) (now (live .exit)) (now (bits .exit)) ⌝ }
 {
     let l = bits::list_set_bits(shot, detectors, defects);
+    if l == 0 {
+        return Shot::Decoded {
+            rounds: 0,
+            length: 0,
+        };
+    }
     shot_growth::light(detectors, defects, l, lit, odd, known, hot, active, seen);
     shot_rounds::grow_and_answer(
         detectors,
