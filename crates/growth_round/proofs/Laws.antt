@@ -2,7 +2,7 @@
 use Prim.Native.Nat.{ℕ, zero, suc, _+_, _*_, _<_, _≤_}
 use native.Mathlib.Omega.{arith}
 use mathlib.Core.Path.{_≡_, refl, sym, ap, ap₂, _∙_}
-use mathlib.Core.List.{List, [], _∷_, _++_, map}
+use mathlib.Core.List.{List, [], _∷_, map}
 use mathlib.Core.Bool.{Bool, true, false, cond, not, _&&_, _||_, and-true}
 use mathlib.Core.Logic.{⊎-elim}
 use lib.Dec.{eqb}
@@ -22,6 +22,7 @@ use Rattle.lists.proofs.Filters.{length-filter}
 use Rattle.bits.specs.Rows.{words, isClear, setBits}
 use Rattle.bits.proofs.Word.{words-hold}
 use Rattle.bits.proofs.Rows.{bits-clear}
+use Rattle.bits.proofs.Listed.{set-bits-few}
 use Rattle.growth_state.specs.Rep.{stateOf, Clusters, Seen, Rest}
 use Rattle.growth_state.proofs.Laws.{set-bool, member-take}
 use Rattle.rounds.specs.Passes.{Fronting, Fronted, Counting, Marked, Taking, Taken, Growing, Ripened, leastIn, noneYet, growIn, ripeIn}
@@ -51,7 +52,7 @@ module _ {d : ℕ} {us vs : List ℕ} {ws : List Float} {off adj far front touch
   abbrev g : Graph
   g = weighted d us vs ws
 
-  pub as-long : length bits ≡ words (length us)
+  as-long : length bits ≡ words (length us)
   as-long = ap length (th .rest .no-bits) ∙ length-replicate {A = ℕ} (words (length us)) 0
 
   enough : length us ≤ 64 * length bits
@@ -91,47 +92,49 @@ module _ {d : ℕ} {us vs : List ℕ} {ws : List Float} {off adj far front touch
       are = list-counted g (sp .ends) lit growth sat parent active a known seen n (th .kept) (th .seens) (th .down) hot free live bits (th .rest) parent′ live′ front′ f fr free′ bits′ mk
 
       -- no bit past the edges is set
-      pub clear-past : isClear (length us) bits′ ≡ true
+      clear-past : isClear (length us) bits′ ≡ true
       clear-past = bits-clear (length us) bits′ (none-past g (sp .ends) lit growth sat parent active a known seen n (th .kept) (th .seens) (th .down) hot free live bits (th .rest) parent′ live′ front′ f fr free′ bits′ mk)
 
-      pub few-touched : length (setBits (length us) bits′) ≤ length us
-      few-touched = rw are (omega (arith, length-filter (isCounted g lit s) (edges g), length-below (length us)))
+      pub taking : Taking d us vs live′ bits′ touched cnt
+      taking = record {
+        ends = ends-bare (sp .ends);
+        few = omega (arith, sp .few);
+        lives = ll;
+        row = lb ∙ as-long;
+        clear = clear-past;
+        touches = sp .touches;
+        cnts = sp .cnts;
+      }
 
-      module _ {touched′ : List ℕ} {m : ℕ} (hm : m ≡ length (setBits (length us) bits′)) (ht : touched′ ≡ setBits (length us) bits′ ++ drop (length (setBits (length us) bits′)) touched) (lt : length touched′ ≡ length touched) where
-        fits : length (setBits (length us) bits′) ≤ length touched
-        fits = omega (arith, few-touched, sp .touches)
+      module _ {bits″ touched′ cnt′ : List ℕ} {m : ℕ} (tk : Taken us vs live′ bits′ touched bits″ touched′ cnt′ m) (lt : length touched′ ≡ length touched) (lc : length cnt′ ≡ length cnt) where
+        fits : m ≤ length touched′
+        fits = omega (arith, tk .many, set-bits-few (length us) bits′, sp .touches, lt)
+
+        beside : m ≤ length cnt′
+        beside = omega (arith, tk .many, set-bits-few (length us) bits′, sp .cnts, lc)
 
         firsts-are : take m touched′ ≡ filter (isCounted g lit s) (edges g)
-        firsts-are = ap₂ (λ (k : ℕ) (l : List ℕ). take k l) hm ht ∙ take-at (setBits (length us) bits′) (drop (length (setBits (length us) bits′)) touched) (length (setBits (length us) bits′)) refl ∙ are
+        firsts-are = ap₂ (λ (k : ℕ) (l : List ℕ). take k l) (tk .many) (tk .lists)
+            ∙ take-at (setBits (length us) bits′) (drop (length (setBits (length us) bits′)) touched) (length (setBits (length us) bits′)) refl ∙ are
 
         in-touched : (i : ℕ) → i < m → (isCounted g lit s (getD touched′ i 0) ≡ true) × (getD touched′ i 0 < length us)
-        in-touched i h = edge-in (isCounted g lit s) (length us) (getD touched′ i 0) (first-in touched′ m (filter (isCounted g lit s) (edges g)) (omega (arith, hm, lt, fits)) firsts-are i h)
+        in-touched i h = edge-in (isCounted g lit s) (length us) (getD touched′ i 0) (first-in touched′ m (filter (isCounted g lit s) (edges g)) fits firsts-are i h)
 
-        pub taking : Taking d us vs live′ touched′ m cnt
-        taking = record {
-          ends = ends-bare (sp .ends);
-          lives = ll;
-          touches = omega (arith, hm, lt, fits);
-          inside = λ i h. in-touched i h .1;
-          cnts = omega (arith, hm, few-touched, sp .cnts);
+        counts-are : take m cnt′ ≡ map (count g lit s) (take m touched′)
+        counts-are = counts-map (count g lit s) m touched′ cnt′ fits beside
+            (λ i h. tk .counts i h ∙ count-is g (sp .ends) lit growth sat parent active a known seen n (th .kept) (th .seens) (th .down) hot free live bits (th .rest) parent′ live′ front′ f fr
+            (getD touched′ i 0) (in-touched i h .1) (in-touched i h .0))
+
+        pub touched-of : Touched g lit s known parent′ free′ live′ bits″ touched′ cnt′ m
+        touched-of = record {
+          down = fr .down;
+          labels-are = fr .kept;
+          lists = record { touches = fits; cnts = beside; edges-are = firsts-are; counts-are = counts-are };
+          frees = free-is g (sp .ends) lit growth sat parent active a known seen n (th .kept) (th .seens) (th .down) hot free live bits (th .rest) parent′ live′ front′ f fr free′ bits′ mk;
+          others = free-only g (sp .ends) lit growth sat parent active a known seen n (th .kept) (th .seens) (th .down) hot free live bits (th .rest) parent′ live′ front′ f fr free′ bits′ mk;
+          cold = still-cold g (sp .ends) lit growth sat parent active a known seen n (th .kept) (th .seens) (th .down) hot free live bits (th .rest) parent′ live′ front′ f fr;
+          no-bits = tk .no-bits ∙ ap (λ k. replicate k 0) (lb ∙ as-long);
         }
-
-        module _ {cnt′ : List ℕ} (tk : Taken us vs live′ touched′ m cnt′) (lc : length cnt′ ≡ length cnt) where
-          counts-are : take m cnt′ ≡ map (count g lit s) (take m touched′)
-          counts-are = counts-map (count g lit s) m touched′ cnt′ (omega (arith, hm, lt, fits)) (omega (arith, hm, few-touched, sp .cnts, lc))
-              (λ i h. tk .counts i h ∙ count-is g (sp .ends) lit growth sat parent active a known seen n (th .kept) (th .seens) (th .down) hot free live bits (th .rest) parent′ live′ front′ f fr
-              (getD touched′ i 0) (in-touched i h .1) (in-touched i h .0))
-
-          pub touched-of : {bits″ : List ℕ} → bits″ ≡ replicate (length bits′) 0 → Touched g lit s known parent′ free′ live′ bits″ touched′ cnt′ m
-          touched-of z = record {
-            down = fr .down;
-            labels-are = fr .kept;
-            lists = record { touches = omega (arith, hm, lt, fits); cnts = omega (arith, hm, few-touched, sp .cnts, lc); edges-are = firsts-are; counts-are = counts-are };
-            frees = free-is g (sp .ends) lit growth sat parent active a known seen n (th .kept) (th .seens) (th .down) hot free live bits (th .rest) parent′ live′ front′ f fr free′ bits′ mk;
-            others = free-only g (sp .ends) lit growth sat parent active a known seen n (th .kept) (th .seens) (th .down) hot free live bits (th .rest) parent′ live′ front′ f fr free′ bits′ mk;
-            cold = still-cold g (sp .ends) lit growth sat parent active a known seen n (th .kept) (th .seens) (th .down) hot free live bits (th .rest) parent′ live′ front′ f fr;
-            no-bits = z ∙ ap (λ k. replicate k 0) (lb ∙ as-long);
-          }
 
 -- ---- settling
 

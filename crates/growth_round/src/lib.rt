@@ -53,10 +53,7 @@ pub fn touch(
         free,
         bits,
     );
-    let m = bits::list_set_bits(bits, edge_u.len(), touched);
-    fills::fill_u64(bits, 0);
-    rounds::counts(d, edge_u, edge_v, live, touched, m, cnt);
-    m
+    rounds::take(d, edge_u, edge_v, live, bits, touched, cnt)
 }
 
 // Steps 2 and 3: the least step, growth by it, and what saturates. Long for its parameters, one a line.

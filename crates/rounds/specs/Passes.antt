@@ -1,22 +1,22 @@
 -- What each pass of a round asks and leaves.
-use Prim.Native.Nat.{ℕ, zero, suc, _+_, _*_, _/_, _<_, _≤_}
+use Prim.Native.Nat.{ℕ, zero, suc, _+_, _*_, _/_, _^_, _<_, _≤_}
 use mathlib.Core.Path.{_≡_}
-use mathlib.Core.List.{List, [], _∷_}
+use mathlib.Core.List.{List, [], _∷_, _++_, map}
 use mathlib.Core.Bool.{Bool, true, false, cond, not, _&&_, _||_}
 use mathlib.Core.Option.{Option, none, some}
 use lib.Dec.{eqb}
-use lib.ListN.{length, getD, take, set}
+use lib.ListN.{length, getD, take, drop, set, replicate}
 use lib.IntN.{pos}
 use lib.Ieee as Ieee
 use lib.Ieee.{Float, nan, inf, binary64}
-use lib.Seq.{slice}
+use lib.Seq.{slice, sets}
 use Rattle.lists.specs.Lists.{filter, any, member}
 use Rattle.steps.specs.Graph.{Ends}
 use Rattle.steps.specs.Growth.{one, Least, tolerance}
 use Rattle.rounds.specs.declared.Best.{Best}
 use Rattle.forest.specs.Forest.{Down, labels}
 use Rattle.adjacency.specs.Adjacent.{weighted, Adjacent, star}
-use Rattle.bits.specs.Rows.{words, bit}
+use Rattle.bits.specs.Rows.{words, bit, isClear, setBits, wordBits}
 
 -- ---- front
 
@@ -75,23 +75,46 @@ pub record Marked (d : ℕ) (us vs front : List ℕ) (m : ℕ) (parent : List �
   pub marks : (j : ℕ) → bit bits′ j ≡ (bit bits j || (any (λ x. member j (star us vs x)) (take m front) && isFree sat j))
   pub frees : (r : ℕ) → r < d → getD free′ r false ≡ (getD free r false || any (λ x. eqb (getD (labels d parent) x 0) r && any (isFree sat) (star us vs x)) (take m front))
 
--- ---- counts
+-- ---- the marked edges
 
 -- how many of the ends a and b are live; the boundary is not
 abbrev pub liveEnds : List Bool → ℕ → ℕ → ℕ
 liveEnds live a b = one (getD live a false) + one (not (eqb b 4294967295) && getD live b false)
 
--- m edges touched, and a place for the count of each
-pub record Taking (d : ℕ) (us vs : List ℕ) (live : List Bool) (touched : List ℕ) (m : ℕ) (cnt : List ℕ) : Type 0 where
-  pub ends : Ends (weighted d us vs [])
-  pub lives : length live ≡ d
-  pub touches : m ≤ length touched
-  pub inside : (i : ℕ) → i < m → getD touched i 0 < length us
-  pub cnts : m ≤ length cnt
+-- the count of edge e
+abbrev pub endsOf : List ℕ → List ℕ → List Bool → ℕ → ℕ
+endsOf us vs live e = liveEnds live (getD us e 0) (getD vs e 0)
 
--- the count of each is the number of its live ends
-pub record Taken (us vs : List ℕ) (live : List Bool) (touched : List ℕ) (m : ℕ) (cnt′ : List ℕ) : Type 0 where
-  pub counts : (i : ℕ) → i < m → getD cnt′ i 0 ≡ liveEnds live (getD us (getD touched i 0) 0) (getD vs (getD touched i 0) 0)
+-- the set bits of a word, whose bit 0 is edge base, are edges, and there is a place for each from `from` on
+pub record TakingWord (us vs : List ℕ) (live : List Bool) (base word : ℕ) (touched cnt : List ℕ) (from : ℕ) : Type 0 where
+  pub ends : Ends (weighted (length live) us vs [])
+  pub low : base + 64 ≤ 2 ^ 32
+  pub inside : (e : ℕ) → member e (wordBits base word) ≡ true → e < length us
+  pub touches : from + length (wordBits base word) ≤ length touched
+  pub cnts : from + length (wordBits base word) ≤ length cnt
+
+-- they are listed there, beside each its count, and r is the place past them
+pub record TakenWord (us vs : List ℕ) (live : List Bool) (base word : ℕ) (touched cnt : List ℕ) (from : ℕ) (touched′ cnt′ : List ℕ) (r : ℕ) : Type 0 where
+  pub past : r ≡ from + length (wordBits base word)
+  pub lists : touched′ ≡ sets touched from (wordBits base word)
+  pub counts : cnt′ ≡ sets cnt from (map (endsOf us vs live) (wordBits base word))
+
+-- a row of marks, of edges alone, and a place for each edge and its count
+pub record Taking (d : ℕ) (us vs : List ℕ) (live : List Bool) (bits touched cnt : List ℕ) : Type 0 where
+  pub ends : Ends (weighted d us vs [])
+  pub few : length us < 2 ^ 32
+  pub lives : length live ≡ d
+  pub row : length bits ≡ words (length us)
+  pub clear : isClear (length us) bits ≡ true
+  pub touches : length us ≤ length touched
+  pub cnts : length us ≤ length cnt
+
+-- the m marked edges are listed, ascending; the count of each is the number of its live ends; no mark is left for the next round
+pub record Taken (us vs : List ℕ) (live : List Bool) (bits touched bits′ touched′ cnt′ : List ℕ) (m : ℕ) : Type 0 where
+  pub many : m ≡ length (setBits (length us) bits)
+  pub lists : touched′ ≡ setBits (length us) bits ++ drop (length (setBits (length us) bits)) touched
+  pub counts : (i : ℕ) → i < m → getD cnt′ i 0 ≡ endsOf us vs live (getD touched′ i 0)
+  pub no-bits : bits′ ≡ replicate (length bits) 0
 
 -- ---- the first stuck cluster
 

@@ -8,7 +8,7 @@ ghost use lib.Dec.{eqb};
 ghost use Rattle.lists.specs.Lists.{any, filter};
 ghost use Rattle.forest.specs.Forest.{Down};
 ghost use Rattle.adjacency.specs.Adjacent.{Adjacent};
-ghost use Rattle.rounds.specs.Passes.{Fronting, Fronted, Opening, Opened, Counting, Marked, Taking, liveEnds, Taken, Checking, firstShut, stepFrom, leastOfBest, lesserOf, noneYet, Growing, leastIn, movedBy, reachesFrom, Ripened};
+ghost use Rattle.rounds.specs.Passes.{Fronting, Fronted, Opening, Opened, Counting, Marked, liveEnds, TakingWord, TakenWord, Taking, Taken, Checking, firstShut, stepFrom, leastOfBest, lesserOf, noneYet, Growing, leastIn, movedBy, reachesFrom, Ripened};
 
 const BOUNDARY: u32 = 4294967295;
 
@@ -113,25 +113,55 @@ pub fn live_ends(live: &[bool], a: u32, b: u32) -> u8
     near as u8 + far as u8
 }
 
-// Counts the live ends of each of the m edges.
-pub fn counts(
+// Takes the edges of a word, whose bit 0 is edge base: lists them from `from` on, beside each its count, and returns the place past them.
+fn take_word(
+    word: u64,
+    base: u32,
+    edge_u: &[u32],
+    edge_v: &[u32],
+    live: &[bool],
+    touched: &mut [u32],
+    cnt: &mut [u8],
+    from: usize,
+) -> usize
+    requires { ⌜ TakingWord (now «edge_u») (now «edge_v») (now live) base word (now touched) (now cnt) from ⌝ }
+    ensures { λ r. ⌜ TakenWord (now («edge_u» .entry)) (now («edge_v» .entry)) (now (live .entry)) base word (now (touched .entry)) (now (cnt .entry)) from (now (touched .exit)) (now (cnt .exit)) r ⌝ }
+{
+    let mut left = word;
+    let mut at = from;
+    while left != 0 {
+        let e = base + u64::trailing_zeros(left);
+        touched[at] = e;
+        cnt[at] = live_ends(live, edge_u[e as usize], edge_v[e as usize]);
+        at += 1;
+        left = left & (left - 1);
+    }
+    at
+}
+
+// Takes the marked edges: lists them, ascending, beside each the count of its live ends, and returns how many there are. It clears each word as it goes, so that the marks are walked once a round.
+pub fn take(
     d: usize,
     edge_u: &[u32],
     edge_v: &[u32],
     live: &[bool],
-    touched: &[u32],
-    m: usize,
+    bits: &mut [u64],
+    touched: &mut [u32],
     cnt: &mut [u8],
-)
-    requires { ⌜ Taking d (now «edge_u») (now «edge_v») (now live) (now touched) m (now cnt) ⌝ }
-    ensures { λ _. ⌜ Taken (now («edge_u» .entry)) (now («edge_v» .entry)) (now (live .entry)) (now (touched .entry)) m (now (cnt .exit)) ⌝ }
+) -> usize
+    requires { ⌜ Taking d (now «edge_u») (now «edge_v») (now live) (now bits) (now touched) (now cnt) ⌝ }
+    ensures { λ r. ⌜ Taken (now («edge_u» .entry)) (now («edge_v» .entry)) (now (live .entry)) (now (bits .entry)) (now (touched .entry)) (now (bits .exit)) (now (touched .exit)) (now (cnt .exit)) r ⌝ }
 {
     let mut i = 0;
-    while i < m {
-        let e = touched[i] as usize;
-        cnt[i] = live_ends(live, edge_u[e], edge_v[e]);
+    let mut at = 0;
+    while i < bits.len() {
+        let word = bits[i];
+        let base = (i * 64) as u32;
+        bits[i] = 0;
+        at = take_word(word, base, edge_u, edge_v, live, touched, cnt, at);
         i += 1;
     }
+    at
 }
 
 // The first of the a active clusters that is not free; the boundary's number where each is.
