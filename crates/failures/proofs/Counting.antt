@@ -3,9 +3,9 @@ use Prim.Native.Nat.{ℕ, suc, _+_, _-_, _*_, _≤_, _<_}
 use native.Mathlib.Nat.{suc-mul, mul-le-mul, mul-le-mul-right}
 use native.Mathlib.Numerals.{add-one}
 use native.Mathlib.Omega.{arith}
-use mathlib.Core.Path.{_≡_, refl, sym, ap, _∙_}
-use mathlib.Core.List.{List, [], _∷_}
-use mathlib.Core.Bool.{Bool, true, false, cond, not, _&&_}
+use mathlib.Core.Path.{_≡_, refl, ap, _∙_}
+use mathlib.Core.List.{List}
+use mathlib.Core.Bool.{Bool, true, cond, _&&_}
 use lib.Dec.{eqb}
 use lib.Ieee.{Float}
 use lib.ListN.{length, drop, length-drop}
@@ -17,11 +17,9 @@ use Rattle.lists.proofs.Truth.{case-of, and-left, and-right}
 use Rattle.lists.proofs.Members.{length-below}
 use Rattle.lists.proofs.Filters.{length-filter}
 use Rattle.bits.specs.Rows.{words, isClear}
-
-use Rattle.codes.specs.declared.Refusal.the-variants.{Shape}
 use Rattle.codes.specs.declared.Checked.{Checked}
 use Rattle.codes.specs.declared.Checked.the-variants.{Accepted, Refused}
-use Rattle.codes.specs.Order.{refuseIf, andThen}
+use Rattle.codes.specs.Order.{andThen}
 use Rattle.packed.specs.Packed.{rowAt}
 use Rattle.failures.specs.declared.ErrorRate.the-variants as answer
 use Rattle.failures.specs.Failures.{differs, failuresIn, shapeOf, answerOf, ComparableRow, Comparable}

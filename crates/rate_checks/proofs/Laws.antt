@@ -1,0 +1,33 @@
+-- What an accepted check of the rate leaves true: the check of a batch accepts, and the packing of the true observables.
+use Prim.Native.Nat.{ℕ}
+use mathlib.Core.Path.{_≡_}
+use mathlib.Core.List.{List}
+use mathlib.Core.Bool.{Bool, not, _&&_}
+use lib.Dec.{eqb}
+use Rattle.lists.specs.Lists.{below}
+use Rattle.codes.specs.declared.Refusal.the-variants.{Short, Width}
+use Rattle.codes.specs.declared.Checked.the-variants.{Accepted}
+use Rattle.codes.specs.Order.{refuseIf, andThen}
+use Rattle.codes.specs.Limits.{checkCounts, checkShots}
+use Rattle.packed.specs.Packed.{checkPacked}
+use Rattle.steps.specs.Call.{checkEdges}
+use Rattle.lent.proofs.Limits.{both-accept}
+use Rattle.calls.specs.Call.{Lent, graphIn, tablesIn, checkRows, checkCall}
+use Rattle.rate_checks.specs.Checks.{checkBoth, checkRate}
+
+module _ (l : Lent) (long : Bool) (rows : List ℕ) (shots width : ℕ) (truth : List ℕ) (true-shots true-width : ℕ) where
+  pub both-accepted : checkRate l long rows shots width truth true-shots true-width ≡ Accepted → (checkCall l long rows shots width ≡ Accepted) × (checkPacked truth true-shots true-width ≡ Accepted)
+  unfolding checkRate checkBoth checkCall checkRows
+  both-accepted h =
+      let last = refuseIf (not (eqb width (l .detectors))) Width in
+      let packings = andThen (checkPacked rows shots width) (andThen (checkPacked truth true-shots true-width) last) in
+      let graph = andThen (checkEdges (graphIn l) (below (l .edges))) packings in
+      let short = refuseIf (not (tablesIn l && long)) Short in
+      let (a, p) = both-accept (checkCounts (l .detectors) (l .observables) (l .edges)) (andThen (checkShots shots) (andThen (checkShots true-shots) (andThen short graph))) h in
+      let (b, q) = both-accept (checkShots shots) (andThen (checkShots true-shots) (andThen short graph)) p in
+      let (c, r) = both-accept (checkShots true-shots) (andThen short graph) q in
+      let (s, t) = both-accept short graph r in
+      let (e, u) = both-accept (checkEdges (graphIn l) (below (l .edges))) packings t in
+      let (k, v) = both-accept (checkPacked rows shots width) (andThen (checkPacked truth true-shots true-width) last) u in
+      let (m, w) = both-accept (checkPacked truth true-shots true-width) last v in
+      (rw (a, b, s, e, k, w), m)
