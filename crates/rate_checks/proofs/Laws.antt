@@ -6,6 +6,7 @@ use mathlib.Core.Bool.{Bool, not, _&&_}
 use lib.Dec.{eqb}
 use Rattle.lists.specs.Lists.{below}
 use Rattle.codes.specs.declared.Refusal.the-variants.{Short, Width}
+use Rattle.codes.specs.declared.Checked.{Checked}
 use Rattle.codes.specs.declared.Checked.the-variants.{Accepted}
 use Rattle.codes.specs.Order.{refuseIf, andThen}
 use Rattle.codes.specs.Limits.{checkCounts, checkShots}
@@ -14,6 +15,10 @@ use Rattle.steps.specs.Call.{checkEdges}
 use Rattle.lent.proofs.Limits.{both-accept}
 use Rattle.calls.specs.Call.{Lent, graphIn, tablesIn, checkRows, checkCall}
 use Rattle.rate_checks.specs.Checks.{checkBoth, checkRate}
+
+-- six checks that accept
+accept-all : (a b c d e f : Checked) → a ≡ Accepted → b ≡ Accepted → c ≡ Accepted → d ≡ Accepted → e ≡ Accepted → f ≡ Accepted → andThen a (andThen b (andThen c (andThen d (andThen e f)))) ≡ Accepted
+accept-all a b c d e f p q r s t u = rw (p, q, r, s, t, u)
 
 module _ (l : Lent) (long : Bool) (rows : List ℕ) (shots width : ℕ) (truth : List ℕ) (true-shots true-width : ℕ) where
   pub both-accepted : checkRate l long rows shots width truth true-shots true-width ≡ Accepted → (checkCall l long rows shots width ≡ Accepted) × (checkPacked truth true-shots true-width ≡ Accepted)
@@ -30,4 +35,4 @@ module _ (l : Lent) (long : Bool) (rows : List ℕ) (shots width : ℕ) (truth :
       let (e, u) = both-accept (checkEdges (graphIn l) (below (l .edges))) packings t in
       let (k, v) = both-accept (checkPacked rows shots width) (andThen (checkPacked truth true-shots true-width) last) u in
       let (m, w) = both-accept (checkPacked truth true-shots true-width) last v in
-      (rw (a, b, s, e, k, w), m)
+      (accept-all (checkCounts (l .detectors) (l .observables) (l .edges)) (checkShots shots) short (checkEdges (graphIn l) (below (l .edges))) (checkPacked rows shots width) last a b s e k w, m)
