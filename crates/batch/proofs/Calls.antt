@@ -1,11 +1,13 @@
 -- The call put together: the tests of its own slices, what an accepted batch has, and what it answers and leaves.
-use Prim.Native.Nat.{ℕ, _*_, _/_, _≤_}
+use Prim.Native.Nat.{ℕ, _+_, _-_, _*_, _/_, _≤_}
 use native.Mathlib.Omega.{arith}
-use mathlib.Core.Path.{_≡_, refl, sym, ap, _∙_}
+use mathlib.Core.Path.{_≡_, refl, sym, ap, _∙_, subst}
 use mathlib.Core.List.{List}
 use mathlib.Core.Bool.{Bool, true, _&&_}
 use lib.Dec.{leb, ltb}
-use lib.ListN.{length}
+use lib.Ieee.{Float}
+use lib.ListN.{length, take}
+use lib.Seq.{length-take-le}
 use borrow.Author.Tests.{leb-true, le-leb}
 use Rattle.lists.specs.Lists.{below}
 use Rattle.lists.proofs.Truth.{and-left, and-right}
@@ -14,16 +16,22 @@ use Rattle.codes.specs.declared.Refusal.{Refusal}
 use Rattle.codes.specs.declared.Checked.{Checked}
 use Rattle.codes.specs.declared.Checked.the-variants.{Accepted, Refused}
 use Rattle.packed.proofs.Shots.{product-none}
+use Rattle.steps.specs.Graph.{Ends}
+use Rattle.steps.specs.Call.{graphOf}
+use Rattle.adjacency.specs.Adjacent.{plain, Sized}
 use Rattle.scratch.specs.Scratch.{scratchLong, covers, lengthsFor}
 use Rattle.scratch.specs.Laws.{Long}
 use Rattle.scratch.proofs.Laws.{scratch-long}
 use Rattle.scratch.proofs.Tests.{half, past}
-use Rattle.calls.specs.Call.{graphIn, checkCall}
+use Rattle.calls.specs.Call.{Lent, lentOf, graphIn, checkCall}
 use Rattle.calls.specs.Laws.{Accepts}
 use Rattle.calls.proofs.Laws.{call-accepted}
-use Rattle.decoder.specs.Parts.{cleanLong}
+use Rattle.parts.specs.Wide.{AdjacentParts, Wide}
+use Rattle.parts.proofs.Laws.{part, part-length}
+use Rattle.decoder.specs.Parts.{adjLong, cleanLong}
+use Rattle.decoder.proofs.Laws.{adj-long}
 use Rattle.batch_rows.specs.Rows.{checkShotsOf, rowsOf, GivenRows}
-use Rattle.batch.specs.Batch.{Handed, ownLong, checks, Decodes}
+use Rattle.batch.specs.Batch.{Handed, ownLong, checks, outAfter, Decodes}
 use Rattle.batch.specs.Parts.{restLong}
 
 -- ---- tests without a product or a sum
@@ -39,6 +47,41 @@ pub rest-tests : (d o n shots w out list off adj far defects seen active front t
 rest-tests d o n shots w out list off adj far defects seen active front touched cnt fresh oe op fit rest q p1 p2 p3 p4 p5 p6 p7 p8 p9 p10 p11 p12 p13 f =
     rw (f, p13, p12, p11, p10, p9, p8, p7, p6, p5, p4, p3, p2, p1, past d off, half n adj, half n far, q) refl
 
+-- ---- the graph of an accepted call
+
+module _ {d o n : ℕ} {u v : List ℕ} {weight : List Float} {obs : List ℕ} {long : Bool} {rows : List ℕ} {shots width : ℕ} (a : Accepts (lentOf d o n u v weight obs) long rows shots width) where
+  ends-plain : Ends (plain d (take n u) (take n v))
+  unfolding graphOf
+  ends-plain = let k = a .ends in record { as-many = k .as-many; small = k .small; inside = k .inside; paired = k .paired }
+
+  -- what its adjacency asks
+  pub sized : (off : List ℕ) → d + 1 ≤ length off → Sized d (part n u) (part n v) (part (d + 1) off)
+  sized off p =
+      let z : n - 0 ≡ n = omega arith in
+      let y : d + 1 - 0 ≡ d + 1 = omega arith in
+      rw (z, y) (record { ends = ends-plain; few = omega (arith, length-take-le n u (a .u-long), a .few-edges); offs = length-take-le (d + 1) off p })
+
+  pub room : (adj far : List ℕ) → 2 * n ≤ length adj → 2 * n ≤ length far → (2 * length (part n u) ≤ length (part (2 * n) adj)) × (length (part (2 * n) far) ≡ length (part (2 * n) adj))
+  room adj far p q = (
+    omega (arith, part-length n u (a .u-long), part-length (2 * n) adj p),
+    omega (arith, part-length (2 * n) adj p, part-length (2 * n) far q),
+  )
+
+  -- with it, what a shot asks
+  pub wide : (off adj far : List ℕ) → d + 1 ≤ length off → 2 * n ≤ length adj → 2 * n ≤ length far → AdjacentParts d n u v off adj far → Wide d o n u v weight obs off adj far
+  wide off adj far p q r t = record {
+    ends = a .ends;
+    firsts = a .u-long;
+    others = a .v-long;
+    weights = a .weight-long;
+    rows = a .obs-long;
+    few = omega (arith, a .few-edges);
+    offs = p;
+    adjs = q;
+    fars = r;
+    adjacent = t;
+  }
+
 -- ---- the outcome
 
 -- the tests in parts
@@ -49,16 +92,6 @@ abbrev pub ownBy : Handed → Bool → Bool
 ownBy h rest = restLong (h .graph .detectors) (h .graph .observables) (h .graph .edges) (h .shots) (length (h .out)) (h .list) (h .scratch .«adj_offsets») (h .scratch .«adj_edge») (h .scratch .«adj_far») (h .scratch .defects) (h .scratch .seen) (h .scratch .active) (h .scratch .front) (h .scratch .touched) (h .scratch .cnt) (h .scratch .fresh) (h .scratch .«order_edge») (h .scratch .«order_parent») rest
 
 module _ (h : Handed) where
-  -- slices that are long enough have room for the edges at each detector
-  pub room : {long : Bool} → long ≡ ownLong h → long ≡ true → Room (h .graph .detectors) (h .graph .edges) (h .scratch .«adj_offsets») (h .scratch .«adj_edge») (h .scratch .«adj_far»)
-  unfolding ownLong
-  room p q =
-      let rows = leb (h .shots * words (h .graph .observables)) (length (h .out)) in
-      let lists = leb (h .graph .detectors) (h .list) in
-      let slices = scratchLong (h .graph .detectors) (h .graph .edges) (h .scratch) in
-      let k = scratch-long (h .graph .detectors) (h .graph .edges) (h .scratch) (and-right lists slices (and-right rows (lists && slices) (sym p ∙ q))) in
-      record { offs = k .adj-offsets; adjs = k .adj-edge; fars = k .adj-far }
-
   -- the tests put together
   pub own-is : {own long : Bool} → own ≡ ownBy h long → long ≡ cleanBy h → own ≡ ownLong h
   unfolding ownLong scratchLong covers lengthsFor
@@ -106,5 +139,21 @@ module _ (h : Handed) where
       lists = omega (arith, list-long);
     }
 
+    -- it is accepted by what is known before its other slices are tested
+    pub adj-accepted : checkCall (h .graph) (adjLong (h .graph .detectors) (h .graph .edges) (h .scratch .«adj_offsets») (h .scratch .«adj_edge») (h .scratch .«adj_far»)) (h .rows) (h .shots) (h .width) ≡ Accepted
+    unfolding checks
+    adj-accepted = ap (λ (b : Bool). checkCall (h .graph) b (h .rows) (h .shots) (h .width)) (adj-long (h .graph .detectors) (h .graph .edges) scratch ∙ sym own) ∙ sym a
+
     pub decoded : {r : Checked} {out : List ℕ} → (r ≡ checkShotsOf (graphIn (h .graph)) (h .rows) (below (h .shots))) × (out ≡ rowsOf (graphIn (h .graph)) (h .rows) (below (h .shots)) (h .out)) → Decodes h r out
     decoded k = record { answers = rw (sym a) (k .0); rows = rw (sym a) (k .1) }
+
+-- ---- tables of another content and the same lengths
+
+pub still-tabled : (l : Lent) (rows : List ℕ) (d n shots width : ℕ) {a b c a′ b′ c′ : ℕ} {P : Type 0} → a′ ≡ a → b′ ≡ b → c′ ≡ c
+    → (checkCall l (adjLong d n a b c) rows shots width ≡ Accepted → P) → checkCall l (adjLong d n a′ b′ c′) rows shots width ≡ Accepted → P
+still-tabled l rows d n shots width {a} {b} {c} {a′} {b′} {c′} p q r f h =
+    f (subst (λ (x : ℕ). checkCall l (adjLong d n x b c) rows shots width ≡ Accepted) p (subst (λ (x : ℕ). checkCall l (adjLong d n a′ x c) rows shots width ≡ Accepted) q (subst (λ (x : ℕ). checkCall l (adjLong d n a′ b′ x) rows shots width ≡ Accepted) r h)))
+
+pub still-decodes : (f : ℕ → ℕ → ℕ → Handed) {a b c a′ b′ c′ : ℕ} {r : Checked} {out : List ℕ} → a′ ≡ a → b′ ≡ b → c′ ≡ c → Decodes (f a′ b′ c′) r out → Decodes (f a b c) r out
+still-decodes f {a} {b} {c} {a′} {b′} {c′} {r} {out} p q s k =
+    subst (λ (x : ℕ). Decodes (f x b c) r out) p (subst (λ (x : ℕ). Decodes (f a′ x c) r out) q (subst (λ (x : ℕ). Decodes (f a′ b′ x) r out) s k))

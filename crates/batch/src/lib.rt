@@ -4,10 +4,12 @@ ghost use Prim.Native.Nat.{_*_};
 ghost use mathlib.Core.Path.{_≡_};
 ghost use lib.Dec.{leb};
 ghost use lib.ListN.{length};
+ghost use Rattle.codes.specs.declared.Checked.the-variants.{Accepted};
 ghost use Rattle.scratch.specs.Scratch.{lengthsOf};
-ghost use Rattle.calls.specs.Call.{lentOf};
-ghost use Rattle.decoder.specs.Parts.{cleanLong};
-ghost use Rattle.batch.specs.Batch.{handed, ownLong, Decodes};
+ghost use Rattle.calls.specs.Call.{lentOf, checkCall};
+ghost use Rattle.parts.specs.Wide.{AdjacentParts};
+ghost use Rattle.decoder.specs.Parts.{adjLong, cleanLong};
+ghost use Rattle.batch.specs.Batch.{handed, Decodes};
 ghost use Rattle.batch.specs.Parts.{restLong};
 
 // Whether a row of w words for each shot fits, whatever the counts are: no product is made.
@@ -24,7 +26,7 @@ fn rows_fit(shots: usize, w: usize, len: usize) -> bool
 }
 
 // Whether the tables that are put to rest are long enough, by their lengths.
-pub fn clean_long(
+fn clean_long(
     detectors: usize,
     edges: usize,
     lit: usize,
@@ -56,7 +58,7 @@ pub fn clean_long(
 }
 
 // 2, of the call's own slices by their lengths, where it is known of the tables that are put to rest. Long for its parameters, one a line.
-pub fn own_long(
+fn own_long(
     detectors: usize,
     observables: usize,
     edges: usize,
@@ -98,13 +100,59 @@ pub fn own_long(
     long
 }
 
-// The call checked and the edges at each detector made, once; then its shots decoded. Long for its parameters, one a line.
-fn decode_ready(
-    out: &mut [u64],
-    list: &mut [u32],
+// The edges at each detector, where the call is accepted so far: its own slices but for these are tested later. Long for its parameters, one a line.
+fn tabulate(
+    detectors: usize,
+    observables: usize,
+    edges: usize,
+    edge_u: &[u32],
+    edge_v: &[u32],
+    edge_weight: &[f64],
+    edge_obs: &[u64],
+    rows: &[u64],
+    shots: usize,
+    width: usize,
     adj_offsets: &mut [u32],
     adj_edge: &mut [u32],
     adj_far: &mut [u32],
+)
+    ensures { λ _. ⌜ (checkCall (lentOf detectors observables edges (now («edge_u» .entry)) (now («edge_v» .entry)) (now («edge_weight» .entry)) (now («edge_obs» .entry))) (adjLong detectors edges (length (now («adj_offsets» .entry))) (length (now («adj_edge» .entry))) (length (now («adj_far» .entry)))) (now (rows .entry)) shots width ≡ Accepted → AdjacentParts detectors edges (now («edge_u» .entry)) (now («edge_v» .entry)) (now («adj_offsets» .exit)) (now («adj_edge» .exit)) (now («adj_far» .exit))) ⌝ }
+{
+    let mut long = scratch::fits(edges, adj_far.len() / 2, true);
+    long = scratch::fits(edges, adj_edge.len() / 2, long);
+    long = scratch::fits_past(detectors, adj_offsets.len(), long);
+    let checked = calls::check_call(
+        detectors,
+        observables,
+        edges,
+        edge_u,
+        edge_v,
+        edge_weight,
+        edge_obs,
+        long,
+        rows,
+        shots,
+        width,
+    );
+    if let Checked::Refused(_) = checked {
+        return;
+    }
+    let offsets = detectors + 1;
+    let ends = 2 * edges;
+    adjacency::adjacency(
+        detectors,
+        &edge_u[0..edges],
+        &edge_v[0..edges],
+        &mut adj_offsets[0..offsets],
+        &mut adj_edge[0..ends],
+        &mut adj_far[0..ends],
+    );
+}
+
+// The other slices tested, the call checked, and its shots decoded. Long for its parameters, one a line.
+fn decode_checked(
+    out: &mut [u64],
+    list: &mut [u32],
     defects: &mut [u32],
     seen: &mut [u32],
     active: &mut [u32],
@@ -132,18 +180,40 @@ fn decode_ready(
     edge_v: &[u32],
     edge_weight: &[f64],
     edge_obs: &[u64],
+    adj_offsets: &[u32],
+    adj_edge: &[u32],
+    adj_far: &[u32],
     rows: &[u64],
     shots: usize,
     width: usize,
     long: bool,
 ) -> Checked
-    requires { ⌜ long ≡ ownLong (handed (lentOf detectors observables edges (now «edge_u») (now «edge_v») (now «edge_weight») (now «edge_obs»)) (now rows) shots width (now out) (length (now list)) (lengthsOf (length (now «adj_offsets»)) (length (now «adj_edge»)) (length (now «adj_far»)) (length (now defects)) (length (now seen)) (length (now active)) (length (now front)) (length (now touched)) (length (now cnt)) (length (now fresh)) (length (now «order_edge»)) (length (now «order_parent»)) (length (now lit)) (length (now growth)) (length (now sat)) (length (now known)) (length (now parent)) (length (now odd)) (length (now «boundary_edge»)) (length (now hot)) (length (now free)) (length (now live)) (length (now bits)))) ⌝ }
+    requires { ⌜ (checkCall (lentOf detectors observables edges (now «edge_u») (now «edge_v») (now «edge_weight») (now «edge_obs»)) (adjLong detectors edges (length (now «adj_offsets»)) (length (now «adj_edge»)) (length (now «adj_far»))) (now rows) shots width ≡ Accepted → AdjacentParts detectors edges (now «edge_u») (now «edge_v») (now «adj_offsets») (now «adj_edge») (now «adj_far»)) ⌝ }
+    requires { ⌜ long ≡ cleanLong detectors edges (length (now lit)) (length (now growth)) (length (now sat)) (length (now known)) (length (now parent)) (length (now odd)) (length (now «boundary_edge»)) (length (now hot)) (length (now free)) (length (now live)) (length (now bits)) ⌝ }
     ensures { λ r. ⌜ Decodes (handed (lentOf detectors observables edges (now («edge_u» .entry)) (now («edge_v» .entry)) (now («edge_weight» .entry)) (now («edge_obs» .entry))) (now (rows .entry)) shots width (now (out .entry)) (length (now (list .entry))) (lengthsOf (length (now («adj_offsets» .entry))) (length (now («adj_edge» .entry))) (length (now («adj_far» .entry))) (length (now (defects .entry))) (length (now (seen .entry))) (length (now (active .entry))) (length (now (front .entry))) (length (now (touched .entry))) (length (now (cnt .entry))) (length (now (fresh .entry))) (length (now («order_edge» .entry))) (length (now («order_parent» .entry))) (length (now (lit .entry))) (length (now (growth .entry))) (length (now (sat .entry))) (length (now (known .entry))) (length (now (parent .entry))) (length (now (odd .entry))) (length (now («boundary_edge» .entry))) (length (now (hot .entry))) (length (now (free .entry))) (length (now (live .entry))) (length (now (bits .entry))))) r (now (out .exit)) ⌝ }
 {
-    let checked = tabled::check_tabled(
-        adj_offsets,
-        adj_edge,
-        adj_far,
+    let own = own_long(
+        detectors,
+        observables,
+        edges,
+        shots,
+        out.len(),
+        list.len(),
+        adj_offsets.len(),
+        adj_edge.len(),
+        adj_far.len(),
+        defects.len(),
+        seen.len(),
+        active.len(),
+        front.len(),
+        touched.len(),
+        cnt.len(),
+        fresh.len(),
+        order_edge.len(),
+        order_parent.len(),
+        long,
+    );
+    let checked = calls::check_call(
         detectors,
         observables,
         edges,
@@ -151,7 +221,7 @@ fn decode_ready(
         edge_v,
         edge_weight,
         edge_obs,
-        long,
+        own,
         rows,
         shots,
         width,
@@ -197,13 +267,10 @@ fn decode_ready(
     )
 }
 
-// The other slices tested by their lengths, then the call as before: the checker takes no more in one function. Long for its parameters, one a line.
-fn decode_long(
+// The tables that are put to rest tested by their lengths, then the call as before: the checker takes no more in one function. Long for its parameters, one a line.
+fn decode_tabled(
     out: &mut [u64],
     list: &mut [u32],
-    adj_offsets: &mut [u32],
-    adj_edge: &mut [u32],
-    adj_far: &mut [u32],
     defects: &mut [u32],
     seen: &mut [u32],
     active: &mut [u32],
@@ -231,41 +298,34 @@ fn decode_long(
     edge_v: &[u32],
     edge_weight: &[f64],
     edge_obs: &[u64],
+    adj_offsets: &[u32],
+    adj_edge: &[u32],
+    adj_far: &[u32],
     rows: &[u64],
     shots: usize,
     width: usize,
-    clean: bool,
 ) -> Checked
-    requires { ⌜ clean ≡ cleanLong detectors edges (length (now lit)) (length (now growth)) (length (now sat)) (length (now known)) (length (now parent)) (length (now odd)) (length (now «boundary_edge»)) (length (now hot)) (length (now free)) (length (now live)) (length (now bits)) ⌝ }
+    requires { ⌜ (checkCall (lentOf detectors observables edges (now «edge_u») (now «edge_v») (now «edge_weight») (now «edge_obs»)) (adjLong detectors edges (length (now «adj_offsets»)) (length (now «adj_edge»)) (length (now «adj_far»))) (now rows) shots width ≡ Accepted → AdjacentParts detectors edges (now «edge_u») (now «edge_v») (now «adj_offsets») (now «adj_edge») (now «adj_far»)) ⌝ }
     ensures { λ r. ⌜ Decodes (handed (lentOf detectors observables edges (now («edge_u» .entry)) (now («edge_v» .entry)) (now («edge_weight» .entry)) (now («edge_obs» .entry))) (now (rows .entry)) shots width (now (out .entry)) (length (now (list .entry))) (lengthsOf (length (now («adj_offsets» .entry))) (length (now («adj_edge» .entry))) (length (now («adj_far» .entry))) (length (now (defects .entry))) (length (now (seen .entry))) (length (now (active .entry))) (length (now (front .entry))) (length (now (touched .entry))) (length (now (cnt .entry))) (length (now (fresh .entry))) (length (now («order_edge» .entry))) (length (now («order_parent» .entry))) (length (now (lit .entry))) (length (now (growth .entry))) (length (now (sat .entry))) (length (now (known .entry))) (length (now (parent .entry))) (length (now (odd .entry))) (length (now («boundary_edge» .entry))) (length (now (hot .entry))) (length (now (free .entry))) (length (now (live .entry))) (length (now (bits .entry))))) r (now (out .exit)) ⌝ }
 {
-    let long = own_long(
+    let long = clean_long(
         detectors,
-        observables,
         edges,
-        shots,
-        out.len(),
-        list.len(),
-        adj_offsets.len(),
-        adj_edge.len(),
-        adj_far.len(),
-        defects.len(),
-        seen.len(),
-        active.len(),
-        front.len(),
-        touched.len(),
-        cnt.len(),
-        fresh.len(),
-        order_edge.len(),
-        order_parent.len(),
-        clean,
+        lit.len(),
+        growth.len(),
+        sat.len(),
+        known.len(),
+        parent.len(),
+        odd.len(),
+        boundary_edge.len(),
+        hot.len(),
+        free.len(),
+        live.len(),
+        bits.len(),
     );
-    decode_ready(
+    decode_checked(
         out,
         list,
-        adj_offsets,
-        adj_edge,
-        adj_far,
         defects,
         seen,
         active,
@@ -293,6 +353,9 @@ fn decode_long(
         edge_v,
         edge_weight,
         edge_obs,
+        adj_offsets,
+        adj_edge,
+        adj_far,
         rows,
         shots,
         width,
@@ -340,27 +403,24 @@ pub fn decode_batch(
 ) -> Checked
     ensures { λ r. ⌜ Decodes (handed (lentOf detectors observables edges (now («edge_u» .entry)) (now («edge_v» .entry)) (now («edge_weight» .entry)) (now («edge_obs» .entry))) (now (rows .entry)) shots width (now (out .entry)) (length (now (list .entry))) (lengthsOf (length (now («adj_offsets» .entry))) (length (now («adj_edge» .entry))) (length (now («adj_far» .entry))) (length (now (defects .entry))) (length (now (seen .entry))) (length (now (active .entry))) (length (now (front .entry))) (length (now (touched .entry))) (length (now (cnt .entry))) (length (now (fresh .entry))) (length (now («order_edge» .entry))) (length (now («order_parent» .entry))) (length (now (lit .entry))) (length (now (growth .entry))) (length (now (sat .entry))) (length (now (known .entry))) (length (now (parent .entry))) (length (now (odd .entry))) (length (now («boundary_edge» .entry))) (length (now (hot .entry))) (length (now (free .entry))) (length (now (live .entry))) (length (now (bits .entry))))) r (now (out .exit)) ⌝ }
 {
-    let clean = clean_long(
+    tabulate(
         detectors,
+        observables,
         edges,
-        lit.len(),
-        growth.len(),
-        sat.len(),
-        known.len(),
-        parent.len(),
-        odd.len(),
-        boundary_edge.len(),
-        hot.len(),
-        free.len(),
-        live.len(),
-        bits.len(),
-    );
-    decode_long(
-        out,
-        list,
+        edge_u,
+        edge_v,
+        edge_weight,
+        edge_obs,
+        rows,
+        shots,
+        width,
         adj_offsets,
         adj_edge,
         adj_far,
+    );
+    decode_tabled(
+        out,
+        list,
         defects,
         seen,
         active,
@@ -388,9 +448,11 @@ pub fn decode_batch(
         edge_v,
         edge_weight,
         edge_obs,
+        adj_offsets,
+        adj_edge,
+        adj_far,
         rows,
         shots,
         width,
-        clean,
     )
 }

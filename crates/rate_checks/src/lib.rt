@@ -4,11 +4,11 @@ use codes::Refusal;
 use packed::Packed;
 ghost use mathlib.Core.Path.{_≡_};
 ghost use mathlib.Core.Bool.{true};
-ghost use lib.ListN.{length};
+ghost use Rattle.lists.specs.Lists.{below};
 ghost use Rattle.codes.specs.declared.Checked.the-variants.{Accepted};
-ghost use Rattle.calls.specs.Call.{lentOf};
-ghost use Rattle.parts.specs.Wide.{AdjacentParts};
-ghost use Rattle.tabled.specs.Tabled.{Room};
+ghost use Rattle.codes.specs.Limits.{checkCounts};
+ghost use Rattle.steps.specs.Call.{checkEdges};
+ghost use Rattle.calls.specs.Call.{lentOf, graphIn, tablesIn};
 ghost use Rattle.rate_checks.specs.Checks.{checkBoth, checkRate};
 
 // 8, 9 of the shots, 8, 9 of the true observables, then 10.
@@ -37,8 +37,8 @@ fn check_both(
     Checked::Accepted
 }
 
-// Long for its parameters, one a line.
-fn check_rate(
+// All checks, where that of the graph has been made: `graph` is its answer if the call comes to it. Long for its parameters, one a line.
+pub fn check_rate(
     detectors: usize,
     observables: usize,
     edges: usize,
@@ -47,6 +47,7 @@ fn check_rate(
     edge_weight: &[f64],
     edge_obs: &[u64],
     long: bool,
+    graph: Checked,
     rows: &[u64],
     shots: usize,
     width: usize,
@@ -54,6 +55,7 @@ fn check_rate(
     true_shots: usize,
     true_width: usize,
 ) -> Checked
+    requires { ⌜ (checkCounts detectors observables edges ≡ Accepted → tablesIn (lentOf detectors observables edges (now «edge_u») (now «edge_v») (now «edge_weight») (now «edge_obs»)) ≡ true → long ≡ true → graph ≡ checkEdges (graphIn (lentOf detectors observables edges (now «edge_u») (now «edge_v») (now «edge_weight») (now «edge_obs»))) (below edges)) ⌝ }
     ensures { λ r. ⌜ r ≡ checkRate (lentOf detectors observables edges (now («edge_u» .entry)) (now («edge_v» .entry)) (now («edge_weight» .entry)) (now («edge_obs» .entry))) long (now (rows .entry)) shots width (now (truth .entry)) «true_shots» «true_width» ⌝ }
 {
     let counts = codes::check_counts(detectors, observables, edges);
@@ -74,64 +76,8 @@ fn check_rate(
     if !long {
         return Checked::Refused(Refusal::Short);
     }
-    let graph = lent::check_edges(
-        detectors,
-        observables,
-        edges,
-        edge_u,
-        edge_v,
-        edge_weight,
-        edge_obs,
-    );
     if let Checked::Refused(r) = graph {
         return Checked::Refused(r);
     }
     check_both(detectors, rows, shots, width, truth, true_shots, true_width)
-}
-
-// The check, then the edges at each detector. Long for its parameters, one a line.
-pub fn check_rate_tabled(
-    adj_offsets: &mut [u32],
-    adj_edge: &mut [u32],
-    adj_far: &mut [u32],
-    detectors: usize,
-    observables: usize,
-    edges: usize,
-    edge_u: &[u32],
-    edge_v: &[u32],
-    edge_weight: &[f64],
-    edge_obs: &[u64],
-    long: bool,
-    rows: &[u64],
-    shots: usize,
-    width: usize,
-    truth: &[u64],
-    true_shots: usize,
-    true_width: usize,
-) -> Checked
-    requires { ⌜ (long ≡ true → Room detectors edges (length (now «adj_offsets»)) (length (now «adj_edge»)) (length (now «adj_far»))) ⌝ }
-    ensures answers { λ r. ⌜ r ≡ checkRate (lentOf detectors observables edges (now («edge_u» .entry)) (now («edge_v» .entry)) (now («edge_weight» .entry)) (now («edge_obs» .entry))) long (now (rows .entry)) shots width (now (truth .entry)) «true_shots» «true_width» ⌝ }
-    ensures tables { λ r. ⌜ (r ≡ Accepted → AdjacentParts detectors edges (now («edge_u» .entry)) (now («edge_v» .entry)) (now («adj_offsets» .exit)) (now («adj_edge» .exit)) (now («adj_far» .exit))) ⌝ }
-{
-    let checked = check_rate(
-        detectors,
-        observables,
-        edges,
-        edge_u,
-        edge_v,
-        edge_weight,
-        edge_obs,
-        long,
-        rows,
-        shots,
-        width,
-        truth,
-        true_shots,
-        true_width,
-    );
-    if let Checked::Refused(r) = checked {
-        return Checked::Refused(r);
-    }
-    tabled::tabulate(detectors, edges, edge_u, edge_v, adj_offsets, adj_edge, adj_far);
-    Checked::Accepted
 }
