@@ -1,12 +1,14 @@
 -- What the call answers and leaves, by its checks, by the shots decoded and by the failures counted.
-use Prim.Native.Nat.{ℕ, _<_}
+use Prim.Native.Nat.{ℕ, _*_, _<_}
 use native.Mathlib.Omega.{arith}
-use mathlib.Core.Path.{_≡_, refl, sym, ap, _∙_}
+use mathlib.Core.Path.{_≡_, refl, sym, ap, _∙_, subst}
 use mathlib.Core.List.{List}
-use mathlib.Core.Bool.{Bool, true}
+use mathlib.Core.Bool.{Bool, true, _&&_}
+use lib.Dec.{leb}
 use lib.Ieee.{Float}
 use lib.ListN.{length}
 use Rattle.lists.specs.Lists.{below}
+use Rattle.lists.proofs.Truth.{and-right}
 use Rattle.lists.proofs.Members.{member-below}
 use Rattle.lists.proofs.Filters.{filter-in}
 use Rattle.bits.specs.Rows.{words, isClear}
@@ -14,24 +16,36 @@ use Rattle.codes.specs.declared.Refusal.{Refusal}
 use Rattle.codes.specs.declared.Checked.{Checked}
 use Rattle.codes.specs.declared.Checked.the-variants.{Accepted, Refused}
 use Rattle.codes.specs.Order.{andThen}
-use Rattle.packed.specs.Packed.{rowAt, checkPacked}
+use Rattle.packed.specs.Packed.{rowAt}
 use Rattle.packed.specs.Laws.{Sound}
 use Rattle.packed.proofs.Laws.{accepted-sound}
 use Rattle.steps.specs.Call.{graphOf}
-use Rattle.calls.specs.Call.{checkCall}
+use Rattle.scratch.specs.Scratch.{scratchLong}
+use Rattle.scratch.proofs.Laws.{scratch-long}
+use Rattle.tabled.specs.Tabled.{Room}
 use Rattle.batch_shot.specs.Row.{shotAt, rowFor}
 use Rattle.batch_rows.specs.Rows.{checkShotsOf, rowsOf}
 use Rattle.batch_rows.proofs.Laws.{row-alone}
 use Rattle.batch.specs.Batch as batch
-use Rattle.batch.specs.Batch.{ownLong}
+use Rattle.batch.specs.Batch.{Handed, ownLong}
 use Rattle.batch.proofs.Calls.{accepts, rows-long}
 use Rattle.failures.specs.declared.ErrorRate.{ErrorRate}
 use Rattle.failures.specs.declared.ErrorRate.the-variants as answer
 use Rattle.failures.specs.Failures.{differs, failuresIn, rateOf, answerOf, Comparable}
 use Rattle.rate_checks.specs.Checks.{checkRate}
-use Rattle.rate_checks.proofs.Laws.{both-accepted}
+use Rattle.rate_checks.proofs.Laws.{Passed, rate-accepted}
 use Rattle.rate.specs.Rate.{Compared, graphOfCall, checks, shape, failed, failures, Rates}
 use Rattle.rate.proofs.Clear.{left-clear}
+
+-- slices that are long enough have room for the edges at each detector
+pub room : (h : Handed) {long : Bool} → long ≡ ownLong h → long ≡ true → Room (h .graph .detectors) (h .graph .edges) (h .scratch .«adj_offsets») (h .scratch .«adj_edge») (h .scratch .«adj_far»)
+unfolding ownLong
+room h p q =
+    let rows = leb (h .shots * words (h .graph .observables)) (length (h .out)) in
+    let lists = leb (h .graph .detectors) (h .list) in
+    let slices = scratchLong (h .graph .detectors) (h .graph .edges) (h .scratch) in
+    let k = scratch-long (h .graph .detectors) (h .graph .edges) (h .scratch) (and-right lists slices (and-right rows (lists && slices) (sym p ∙ q))) in
+    record { offs = k .adj-offsets; adjs = k .adj-edge; fars = k .adj-far }
 
 -- where decoding refuses, no rate is looked at
 same-answer : (decoded then : Checked) {x y : Float} → (decoded ≡ Accepted → x ≡ y) → answerOf (andThen decoded then) x ≡ answerOf (andThen decoded then) y
@@ -55,14 +69,14 @@ module _ (c : Compared) where
   refused e = record { answers = rw (sym e) refl; rows = rw (sym e) refl }
 
   module _ (a : Accepted ≡ checks c) where
-    both : (checkCall (c .batch .graph) (ownLong (c .batch)) (c .batch .rows) (c .batch .shots) (c .batch .width) ≡ Accepted) × (checkPacked (c .truth) (c .true-shots) (c .true-width) ≡ Accepted)
+    pub passed : Passed (c .batch .graph) (ownLong (c .batch)) (c .batch .rows) (c .batch .shots) (c .batch .width) (c .truth) (c .true-shots) (c .true-width)
     unfolding checks
-    both = both-accepted (c .batch .graph) (ownLong (c .batch)) (c .batch .rows) (c .batch .shots) (c .batch .width) (c .truth) (c .true-shots) (c .true-width) (sym a)
+    passed = rate-accepted (c .batch .graph) (ownLong (c .batch)) (c .batch .rows) (c .batch .shots) (c .batch .width) (c .truth) (c .true-shots) (c .true-width) (sym a)
 
     -- a batch of the same shots is accepted
     pub batch-accepted : Accepted ≡ batch.checks (c .batch)
     unfolding batch.checks
-    batch-accepted = sym (both .0)
+    batch-accepted = sym (passed .call)
 
     -- what decoding came to, and the rows that it left
     module _ {decoded : Checked} {out : List ℕ} (k : (decoded ≡ checkShotsOf (graphOfCall c) (c .batch .rows) (below (c .batch .shots))) × (out ≡ rowsOf (graphOfCall c) (c .batch .rows) (below (c .batch .shots)) (c .batch .out))) where
@@ -76,7 +90,7 @@ module _ (c : Compared) where
 
       pub comparable : length out ≡ length (c .batch .out) → decoded ≡ Accepted → c .true-shots ≡ c .batch .shots → c .true-width ≡ c .batch .graph .observables → Comparable (c .batch .graph .observables) (c .batch .shots) out (c .truth)
       comparable e d p q =
-          let t : Sound (c .truth) Shots O = rw (p, q) at (accepted-sound (c .truth) (c .true-shots) (c .true-width) (both .1)) in
+          let t : Sound (c .truth) Shots O = rw (p, q) at (accepted-sound (c .truth) (c .true-shots) (c .true-width) (passed .packing)) in
           record {
             few = t .few;
             few-observables = accepts (c .batch) batch-accepted .few-observables;
@@ -97,3 +111,8 @@ module _ (c : Compared) where
             ∙ ap (λ (x : Checked). answerOf (andThen x (shape c)) (rateOf O (failures c) Shots)) (k .0));
         rows = rw (sym a) (k .1);
       }
+
+-- tables of another content and the same lengths
+pub still-rates : (f : ℕ → ℕ → ℕ → Compared) {a b c a′ b′ c′ : ℕ} {r : ErrorRate} {out : List ℕ} → a′ ≡ a → b′ ≡ b → c′ ≡ c → Rates (f a′ b′ c′) r out → Rates (f a b c) r out
+still-rates f {a} {b} {c} {a′} {b′} {c′} {r} {out} p q s k =
+    subst (λ (x : ℕ). Rates (f x b c) r out) p (subst (λ (x : ℕ). Rates (f a′ x c) r out) q (subst (λ (x : ℕ). Rates (f a′ b′ x) r out) s k))

@@ -1,21 +1,20 @@
 // The logical error rate of a batch: document 01, "Rate". The call checks all that it is handed, puts its scratch to rest, decodes its shots and compares their rows with the true ones.
+// One step a function, and the slices that it writes first: else the checker does not come to an end.
 use codes::Checked;
 use failures::ErrorRate;
 ghost use mathlib.Core.Path.{_≡_};
 ghost use lib.ListN.{length};
 ghost use Rattle.scratch.specs.Scratch.{lengthsOf};
 ghost use Rattle.calls.specs.Call.{lentOf};
-ghost use Rattle.decoder.specs.Parts.{cleanLong};
+ghost use Rattle.tabled.specs.Tabled.{Graphed};
+ghost use Rattle.tabled.specs.Long.{cleanLong};
 ghost use Rattle.batch.specs.Batch.{handed, ownLong};
 ghost use Rattle.rate.specs.Rate.{compared, Rates};
 
-// The call checked and the edges at each detector made, once; then its shots decoded and their rows compared. Long for its parameters, one a line.
-fn rate_ready(
+// The call checked, its shots decoded and their rows compared. Long for its parameters, one a line.
+fn rate_checked(
     out: &mut [u64],
     list: &mut [u32],
-    adj_offsets: &mut [u32],
-    adj_edge: &mut [u32],
-    adj_far: &mut [u32],
     defects: &mut [u32],
     seen: &mut [u32],
     active: &mut [u32],
@@ -43,21 +42,23 @@ fn rate_ready(
     edge_v: &[u32],
     edge_weight: &[f64],
     edge_obs: &[u64],
+    adj_offsets: &[u32],
+    adj_edge: &[u32],
+    adj_far: &[u32],
     rows: &[u64],
     shots: usize,
     width: usize,
     truth: &[u64],
     true_shots: usize,
     true_width: usize,
+    graph: Checked,
     long: bool,
 ) -> ErrorRate
+    requires { ⌜ Graphed (lentOf detectors observables edges (now «edge_u») (now «edge_v») (now «edge_weight») (now «edge_obs»)) graph (now «adj_offsets») (now «adj_edge») (now «adj_far») ⌝ }
     requires { ⌜ long ≡ ownLong (handed (lentOf detectors observables edges (now «edge_u») (now «edge_v») (now «edge_weight») (now «edge_obs»)) (now rows) shots width (now out) (length (now list)) (lengthsOf (length (now «adj_offsets»)) (length (now «adj_edge»)) (length (now «adj_far»)) (length (now defects)) (length (now seen)) (length (now active)) (length (now front)) (length (now touched)) (length (now cnt)) (length (now fresh)) (length (now «order_edge»)) (length (now «order_parent»)) (length (now lit)) (length (now growth)) (length (now sat)) (length (now known)) (length (now parent)) (length (now odd)) (length (now «boundary_edge»)) (length (now hot)) (length (now free)) (length (now live)) (length (now bits)))) ⌝ }
     ensures { λ r. ⌜ Rates (compared (handed (lentOf detectors observables edges (now («edge_u» .entry)) (now («edge_v» .entry)) (now («edge_weight» .entry)) (now («edge_obs» .entry))) (now (rows .entry)) shots width (now (out .entry)) (length (now (list .entry))) (lengthsOf (length (now («adj_offsets» .entry))) (length (now («adj_edge» .entry))) (length (now («adj_far» .entry))) (length (now (defects .entry))) (length (now (seen .entry))) (length (now (active .entry))) (length (now (front .entry))) (length (now (touched .entry))) (length (now (cnt .entry))) (length (now (fresh .entry))) (length (now («order_edge» .entry))) (length (now («order_parent» .entry))) (length (now (lit .entry))) (length (now (growth .entry))) (length (now (sat .entry))) (length (now (known .entry))) (length (now (parent .entry))) (length (now (odd .entry))) (length (now («boundary_edge» .entry))) (length (now (hot .entry))) (length (now (free .entry))) (length (now (live .entry))) (length (now (bits .entry))))) (now (truth .entry)) «true_shots» «true_width») r (now (out .exit)) ⌝ }
 {
-    let checked = rate_checks::check_rate_tabled(
-        adj_offsets,
-        adj_edge,
-        adj_far,
+    let checked = rate_checks::check_rate(
         detectors,
         observables,
         edges,
@@ -66,6 +67,7 @@ fn rate_ready(
         edge_weight,
         edge_obs,
         long,
+        graph,
         rows,
         shots,
         width,
@@ -115,13 +117,10 @@ fn rate_ready(
     failures::rate_answer(decoded, observables, shots, out, truth, true_shots, true_width)
 }
 
-// The other slices tested by their lengths, then the call as before: the checker takes no more in one function. Long for its parameters, one a line.
+// The other slices tested by their lengths. Long for its parameters, one a line.
 fn rate_long(
     out: &mut [u64],
     list: &mut [u32],
-    adj_offsets: &mut [u32],
-    adj_edge: &mut [u32],
-    adj_far: &mut [u32],
     defects: &mut [u32],
     seen: &mut [u32],
     active: &mut [u32],
@@ -149,18 +148,23 @@ fn rate_long(
     edge_v: &[u32],
     edge_weight: &[f64],
     edge_obs: &[u64],
+    adj_offsets: &[u32],
+    adj_edge: &[u32],
+    adj_far: &[u32],
     rows: &[u64],
     shots: usize,
     width: usize,
     truth: &[u64],
     true_shots: usize,
     true_width: usize,
+    graph: Checked,
     clean: bool,
 ) -> ErrorRate
+    requires { ⌜ Graphed (lentOf detectors observables edges (now «edge_u») (now «edge_v») (now «edge_weight») (now «edge_obs»)) graph (now «adj_offsets») (now «adj_edge») (now «adj_far») ⌝ }
     requires { ⌜ clean ≡ cleanLong detectors edges (length (now lit)) (length (now growth)) (length (now sat)) (length (now known)) (length (now parent)) (length (now odd)) (length (now «boundary_edge»)) (length (now hot)) (length (now free)) (length (now live)) (length (now bits)) ⌝ }
     ensures { λ r. ⌜ Rates (compared (handed (lentOf detectors observables edges (now («edge_u» .entry)) (now («edge_v» .entry)) (now («edge_weight» .entry)) (now («edge_obs» .entry))) (now (rows .entry)) shots width (now (out .entry)) (length (now (list .entry))) (lengthsOf (length (now («adj_offsets» .entry))) (length (now («adj_edge» .entry))) (length (now («adj_far» .entry))) (length (now (defects .entry))) (length (now (seen .entry))) (length (now (active .entry))) (length (now (front .entry))) (length (now (touched .entry))) (length (now (cnt .entry))) (length (now (fresh .entry))) (length (now («order_edge» .entry))) (length (now («order_parent» .entry))) (length (now (lit .entry))) (length (now (growth .entry))) (length (now (sat .entry))) (length (now (known .entry))) (length (now (parent .entry))) (length (now (odd .entry))) (length (now («boundary_edge» .entry))) (length (now (hot .entry))) (length (now (free .entry))) (length (now (live .entry))) (length (now (bits .entry))))) (now (truth .entry)) «true_shots» «true_width») r (now (out .exit)) ⌝ }
 {
-    let long = batch::own_long(
+    let long = tabled::own_long(
         detectors,
         observables,
         edges,
@@ -181,12 +185,9 @@ fn rate_long(
         order_parent.len(),
         clean,
     );
-    rate_ready(
+    rate_checked(
         out,
         list,
-        adj_offsets,
-        adj_edge,
-        adj_far,
         defects,
         seen,
         active,
@@ -214,17 +215,125 @@ fn rate_long(
         edge_v,
         edge_weight,
         edge_obs,
+        adj_offsets,
+        adj_edge,
+        adj_far,
         rows,
         shots,
         width,
         truth,
         true_shots,
         true_width,
+        graph,
         long,
     )
 }
 
-// The tables that are put to rest tested first. Long for its parameters, one a line.
+// The tables that are put to rest tested by their lengths. Long for its parameters, one a line.
+fn rate_clean(
+    out: &mut [u64],
+    list: &mut [u32],
+    defects: &mut [u32],
+    seen: &mut [u32],
+    active: &mut [u32],
+    front: &mut [u32],
+    touched: &mut [u32],
+    cnt: &mut [u8],
+    fresh: &mut [u32],
+    order_edge: &mut [u32],
+    order_parent: &mut [u32],
+    lit: &mut [bool],
+    growth: &mut [f64],
+    sat: &mut [bool],
+    known: &mut [bool],
+    parent: &mut [u32],
+    odd: &mut [bool],
+    boundary_edge: &mut [u32],
+    hot: &mut [bool],
+    free: &mut [bool],
+    live: &mut [bool],
+    bits: &mut [u64],
+    detectors: usize,
+    observables: usize,
+    edges: usize,
+    edge_u: &[u32],
+    edge_v: &[u32],
+    edge_weight: &[f64],
+    edge_obs: &[u64],
+    adj_offsets: &[u32],
+    adj_edge: &[u32],
+    adj_far: &[u32],
+    rows: &[u64],
+    shots: usize,
+    width: usize,
+    truth: &[u64],
+    true_shots: usize,
+    true_width: usize,
+    graph: Checked,
+) -> ErrorRate
+    requires { ⌜ Graphed (lentOf detectors observables edges (now «edge_u») (now «edge_v») (now «edge_weight») (now «edge_obs»)) graph (now «adj_offsets») (now «adj_edge») (now «adj_far») ⌝ }
+    ensures { λ r. ⌜ Rates (compared (handed (lentOf detectors observables edges (now («edge_u» .entry)) (now («edge_v» .entry)) (now («edge_weight» .entry)) (now («edge_obs» .entry))) (now (rows .entry)) shots width (now (out .entry)) (length (now (list .entry))) (lengthsOf (length (now («adj_offsets» .entry))) (length (now («adj_edge» .entry))) (length (now («adj_far» .entry))) (length (now (defects .entry))) (length (now (seen .entry))) (length (now (active .entry))) (length (now (front .entry))) (length (now (touched .entry))) (length (now (cnt .entry))) (length (now (fresh .entry))) (length (now («order_edge» .entry))) (length (now («order_parent» .entry))) (length (now (lit .entry))) (length (now (growth .entry))) (length (now (sat .entry))) (length (now (known .entry))) (length (now (parent .entry))) (length (now (odd .entry))) (length (now («boundary_edge» .entry))) (length (now (hot .entry))) (length (now (free .entry))) (length (now (live .entry))) (length (now (bits .entry))))) (now (truth .entry)) «true_shots» «true_width») r (now (out .exit)) ⌝ }
+{
+    let clean = tabled::clean_long(
+        detectors,
+        edges,
+        lit.len(),
+        growth.len(),
+        sat.len(),
+        known.len(),
+        parent.len(),
+        odd.len(),
+        boundary_edge.len(),
+        hot.len(),
+        free.len(),
+        live.len(),
+        bits.len(),
+    );
+    rate_long(
+        out,
+        list,
+        defects,
+        seen,
+        active,
+        front,
+        touched,
+        cnt,
+        fresh,
+        order_edge,
+        order_parent,
+        lit,
+        growth,
+        sat,
+        known,
+        parent,
+        odd,
+        boundary_edge,
+        hot,
+        free,
+        live,
+        bits,
+        detectors,
+        observables,
+        edges,
+        edge_u,
+        edge_v,
+        edge_weight,
+        edge_obs,
+        adj_offsets,
+        adj_edge,
+        adj_far,
+        rows,
+        shots,
+        width,
+        truth,
+        true_shots,
+        true_width,
+        graph,
+        clean,
+    )
+}
+
+// The graph checked and the edges at each detector made, once; then the call. Long for its parameters, one a line.
 pub fn logical_error_rate(
     out: &mut [u64],
     list: &mut [u32],
@@ -267,27 +376,21 @@ pub fn logical_error_rate(
 ) -> ErrorRate
     ensures { λ r. ⌜ Rates (compared (handed (lentOf detectors observables edges (now («edge_u» .entry)) (now («edge_v» .entry)) (now («edge_weight» .entry)) (now («edge_obs» .entry))) (now (rows .entry)) shots width (now (out .entry)) (length (now (list .entry))) (lengthsOf (length (now («adj_offsets» .entry))) (length (now («adj_edge» .entry))) (length (now («adj_far» .entry))) (length (now (defects .entry))) (length (now (seen .entry))) (length (now (active .entry))) (length (now (front .entry))) (length (now (touched .entry))) (length (now (cnt .entry))) (length (now (fresh .entry))) (length (now («order_edge» .entry))) (length (now («order_parent» .entry))) (length (now (lit .entry))) (length (now (growth .entry))) (length (now (sat .entry))) (length (now (known .entry))) (length (now (parent .entry))) (length (now (odd .entry))) (length (now («boundary_edge» .entry))) (length (now (hot .entry))) (length (now (free .entry))) (length (now (live .entry))) (length (now (bits .entry))))) (now (truth .entry)) «true_shots» «true_width») r (now (out .exit)) ⌝ }
 {
-    let clean = batch::clean_long(
-        detectors,
-        edges,
-        lit.len(),
-        growth.len(),
-        sat.len(),
-        known.len(),
-        parent.len(),
-        odd.len(),
-        boundary_edge.len(),
-        hot.len(),
-        free.len(),
-        live.len(),
-        bits.len(),
-    );
-    rate_long(
-        out,
-        list,
+    let graph = tabled::check_graph(
         adj_offsets,
         adj_edge,
         adj_far,
+        detectors,
+        observables,
+        edges,
+        edge_u,
+        edge_v,
+        edge_weight,
+        edge_obs,
+    );
+    rate_clean(
+        out,
+        list,
         defects,
         seen,
         active,
@@ -315,12 +418,15 @@ pub fn logical_error_rate(
         edge_v,
         edge_weight,
         edge_obs,
+        adj_offsets,
+        adj_edge,
+        adj_far,
         rows,
         shots,
         width,
         truth,
         true_shots,
         true_width,
-        clean,
+        graph,
     )
 }
