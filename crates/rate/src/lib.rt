@@ -114,7 +114,15 @@ fn rate_checked(
         rows,
         shots,
     );
-    failures::rate_answer(decoded, observables, shots, out, truth, true_shots, true_width)
+    failures::rate_answer(
+        decoded,
+        observables,
+        shots,
+        out,
+        truth,
+        true_shots,
+        true_width,
+    )
 }
 
 // The other slices tested by their lengths. Long for its parameters, one a line.

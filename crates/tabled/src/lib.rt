@@ -176,6 +176,14 @@ pub fn check_graph(
     if let Checked::Refused(r) = graph {
         return Checked::Refused(r);
     }
-    tabulate(detectors, edges, edge_u, edge_v, adj_offsets, adj_edge, adj_far);
+    tabulate(
+        detectors,
+        edges,
+        edge_u,
+        edge_v,
+        adj_offsets,
+        adj_edge,
+        adj_far,
+    );
     Checked::Accepted
 }
