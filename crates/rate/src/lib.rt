@@ -237,8 +237,8 @@ fn rate_long(
     )
 }
 
-// The tables that are put to rest tested by their lengths. Long for its parameters, one a line.
-fn rate_clean(
+// The tables that are put to rest tested by their lengths. An export calls this after it has checked the graph: it bears no call with all of the slices. Long for its parameters, one a line.
+pub fn rate_clean(
     out: &mut [u64],
     list: &mut [u32],
     defects: &mut [u32],

@@ -640,7 +640,7 @@ fn rate_words(a: ErrorRate) -> RateWords
     }
 }
 
-// The logical error rate. Long for its parameters, one a line.
+// The logical error rate, in the two steps of `rate::logical_error_rate`: a call with all of the slices and the true observables is over the checker's limit of steps. Long for its parameters, one a line.
 #[no_mangle]
 pub extern "C" fn pavrenni_rate(
     out: &mut [u64],
@@ -684,12 +684,21 @@ pub extern "C" fn pavrenni_rate(
 ) -> RateWords
     ensures { λ r. ⌜ InWords wordsOfRate (λ a. Rates (compared (batched.handed (lentOf detectors observables edges (now («edge_u» .entry)) (now («edge_v» .entry)) (now («edge_weight» .entry)) (now («edge_obs» .entry))) (now (rows .entry)) shots width (now (out .entry)) (length (now (list .entry))) (lengthsOf (length (now («adj_offsets» .entry))) (length (now («adj_edge» .entry))) (length (now («adj_far» .entry))) (length (now (defects .entry))) (length (now (seen .entry))) (length (now (active .entry))) (length (now (front .entry))) (length (now (touched .entry))) (length (now (cnt .entry))) (length (now (fresh .entry))) (length (now («order_edge» .entry))) (length (now («order_parent» .entry))) (length (now (lit .entry))) (length (now (growth .entry))) (length (now (sat .entry))) (length (now (known .entry))) (length (now (parent .entry))) (length (now (odd .entry))) (length (now («boundary_edge» .entry))) (length (now (hot .entry))) (length (now (free .entry))) (length (now (live .entry))) (length (now (bits .entry))))) (now (truth .entry)) «true_shots» «true_width») a (now (out .exit))) r ⌝ }
 {
-    rate_words(rate::logical_error_rate(
-        out,
-        list,
+    let graph = tabled::check_graph(
         adj_offsets,
         adj_edge,
         adj_far,
+        detectors,
+        observables,
+        edges,
+        edge_u,
+        edge_v,
+        edge_weight,
+        edge_obs,
+    );
+    rate_words(rate::rate_clean(
+        out,
+        list,
         defects,
         seen,
         active,
@@ -717,11 +726,15 @@ pub extern "C" fn pavrenni_rate(
         edge_v,
         edge_weight,
         edge_obs,
+        adj_offsets,
+        adj_edge,
+        adj_far,
         rows,
         shots,
         width,
         truth,
         true_shots,
         true_width,
+        graph,
     ))
 }
