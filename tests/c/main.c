@@ -130,14 +130,37 @@ static struct pavrenni_shot decode_shot(const struct graph *graph, uint64_t shot
     return answer;
 }
 
-static struct pavrenni_batch decode_batch(const struct graph *graph, const uint64_t *rows, size_t shots, uint64_t *out)
+/* what a batch and a rate are asked; the last is how many entries the last scratch slice lacks */
+struct asked {
+    const uint64_t *rows;
+    size_t rows_len, shots, width;
+    const uint64_t *truth;
+    size_t truth_len, true_shots, true_width, out_len, list_len, lacks;
+};
+
+static struct pavrenni_batch decode_batch(const struct graph *graph, const struct asked *a, uint64_t *out)
 {
     struct decoder_scratch s;
     uint32_t list[2];
     s.lengths = pavrenni_lengths_for(graph->detectors, graph->edges);
     DECODER_SLICES(TAKE)
-    struct pavrenni_batch answer =
-        pavrenni_decode_batch(out, 4, list, 2 DECODER_SLICES(LENT), GRAPH(graph), rows, 4, shots, 2);
+    s.lengths.bits -= a->lacks;
+    struct pavrenni_batch answer = pavrenni_decode_batch(
+        out, a->out_len, list, a->list_len DECODER_SLICES(LENT), GRAPH(graph), a->rows, a->rows_len, a->shots, a->width);
+    DECODER_SLICES(GIVE_BACK)
+    return answer;
+}
+
+static struct pavrenni_rate rate(const struct graph *graph, const struct asked *a, uint64_t *out)
+{
+    struct decoder_scratch s;
+    uint32_t list[2];
+    s.lengths = pavrenni_lengths_for(graph->detectors, graph->edges);
+    DECODER_SLICES(TAKE)
+    s.lengths.bits -= a->lacks;
+    struct pavrenni_rate answer = pavrenni_rate(
+        out, a->out_len, list, a->list_len DECODER_SLICES(LENT), GRAPH(graph), a->rows, a->rows_len, a->shots, a->width,
+        a->truth, a->truth_len, a->true_shots, a->true_width);
     DECODER_SLICES(GIVE_BACK)
     return answer;
 }
@@ -149,19 +172,6 @@ static struct pavrenni_mark mark(const struct graph *graph, uint64_t shot, const
     MARK_SLICES(TAKE)
     struct pavrenni_mark answer = pavrenni_mark(GRAPH(graph), &shot, 1, 2, list, length, row, 1 MARK_SLICES(LENT));
     MARK_SLICES(GIVE_BACK)
-    return answer;
-}
-
-static struct pavrenni_rate rate(
-    const struct graph *graph, const uint64_t *rows, const uint64_t *truth, size_t true_width, uint64_t *out)
-{
-    struct decoder_scratch s;
-    uint32_t list[2];
-    s.lengths = pavrenni_lengths_for(graph->detectors, graph->edges);
-    DECODER_SLICES(TAKE)
-    struct pavrenni_rate answer =
-        pavrenni_rate(out, 4, list, 2 DECODER_SLICES(LENT), GRAPH(graph), rows, 4, 4, 2, truth, 4, 4, true_width);
-    DECODER_SLICES(GIVE_BACK)
     return answer;
 }
 
@@ -239,6 +249,21 @@ static void shots(const struct graph *graph)
     CHECK(decode_shot(graph, 4, 2, &row, list).code == PAVRENNI_PADDING);
     CHECK(row == 1 && list[0] == 1 && list[1] == 0);
 
+    struct graph bad = *graph;
+    bad.edge_u[1] = 2;
+    struct pavrenni_shot refused = decode_shot(&bad, 2, 2, &row, list);
+    CHECK(refused.code == PAVRENNI_INDEX && refused.first == 1 && refused.rounds == 0 && refused.length == 0);
+    bad = *graph;
+    bad.edge_weight[1] = 1025.0;
+    refused = decode_shot(&bad, 2, 2, &row, list);
+    CHECK(refused.code == PAVRENNI_PROBABILITY && refused.first == 1);
+    bad = *graph;
+    bad.observables = 65;
+    CHECK(decode_shot(&bad, 2, 2, &row, list).code == PAVRENNI_SHORT);
+    bad.observables = 129;
+    CHECK(decode_shot(&bad, 2, 2, &row, list).code == PAVRENNI_LIMIT);
+    CHECK(row == 1 && list[0] == 1 && list[1] == 0);
+
     /* the pair edge alone */
     struct graph pair = {.detectors = 2, .observables = 1, .edges = 1, .edge_v = {1}, .edge_weight = {1.0}};
     answer = decode_shot(&pair, 2, 2, &row, list);
@@ -246,21 +271,97 @@ static void shots(const struct graph *graph)
     CHECK(row == 1 && list[0] == 1 && list[1] == 0);
 }
 
+static const uint64_t every_shot[4] = {0, 1, 2, 3};
+static const uint64_t one_wrong[4] = {0, 1, 0, 0};
+static const struct asked four = {
+    .rows = every_shot, .rows_len = 4, .shots = 4, .width = 2, .truth = one_wrong, .truth_len = 4, .true_shots = 4,
+    .true_width = 1, .out_len = 4, .list_len = 2};
+
+static bool untouched(const uint64_t *words, size_t count)
+{
+    for (size_t i = 0; i < count; i++) {
+        if (words[i] != UNTOUCHED) {
+            return false;
+        }
+    }
+    return true;
+}
+
+/* refused by the rate, the output untouched */
+#define RATE_REFUSED(change, code_, first_) \
+    do { \
+        struct asked a = four; \
+        struct graph g = *graph; \
+        uint64_t out[4] = {UNTOUCHED, UNTOUCHED, UNTOUCHED, UNTOUCHED}; \
+        change; \
+        struct pavrenni_rate r = rate(&g, &a, out); \
+        CHECK(r.code == (code_) && r.first == (first_) && r.second == 0 && r.rate == 0.0 && untouched(out, 4)); \
+    } while (0)
+
+/* refused so by a batch too */
+#define BOTH_REFUSED(change, code_, first_) \
+    do { \
+        struct asked a = four; \
+        struct graph g = *graph; \
+        uint64_t out[4] = {UNTOUCHED, UNTOUCHED, UNTOUCHED, UNTOUCHED}; \
+        change; \
+        struct pavrenni_batch b = decode_batch(&g, &a, out); \
+        CHECK(b.code == (code_) && b.first == (first_) && b.second == 0 && untouched(out, 4)); \
+        RATE_REFUSED(change, code_, first_); \
+    } while (0)
+
+/* what a batch refuses, and the rate as it does */
+static void refusals(const struct graph *graph)
+{
+    const uint64_t padded[4] = {0, 1, 4, 8};
+    BOTH_REFUSED(a.shots = 16777217, PAVRENNI_LIMIT, 0);
+    BOTH_REFUSED(a.shots = SIZE_MAX, PAVRENNI_LIMIT, 0);
+    BOTH_REFUSED(g.observables = 129, PAVRENNI_LIMIT, 0);
+    BOTH_REFUSED(a.out_len = 3, PAVRENNI_SHORT, 0);
+    BOTH_REFUSED(a.out_len = 0, PAVRENNI_SHORT, 0);
+    BOTH_REFUSED(a.list_len = 1, PAVRENNI_SHORT, 0);
+    BOTH_REFUSED(a.lacks = 1, PAVRENNI_SHORT, 0);
+    BOTH_REFUSED(g.edge_u[1] = 2, PAVRENNI_INDEX, 1);
+    BOTH_REFUSED(g.edge_weight[0] = -1.0, PAVRENNI_PROBABILITY, 0);
+    BOTH_REFUSED(a.rows_len = 0, PAVRENNI_LENGTH, 0);
+    BOTH_REFUSED(a.rows_len = 3, PAVRENNI_LENGTH, 0);
+    BOTH_REFUSED(a.shots = 3, PAVRENNI_LENGTH, 0);
+    BOTH_REFUSED(a.width = SIZE_MAX, PAVRENNI_LENGTH, 0);
+    BOTH_REFUSED(a.rows = padded, PAVRENNI_PADDING, 2);
+    BOTH_REFUSED(a.width = 3, PAVRENNI_WIDTH, 0);
+}
+
+/* a boundary edge alone: shots that light detector 1 are Stuck there */
+static const struct graph end = {.detectors = 2, .observables = 1, .edges = 1, .edge_v = {PAVRENNI_BOUNDARY}, .edge_obs = {1}};
+
+static void stuck(void)
+{
+    for (size_t at = 0; at < 4; at++) {
+        uint64_t rows[4] = {1, 1, 1, 1};
+        uint64_t out[4] = {UNTOUCHED, UNTOUCHED, UNTOUCHED, UNTOUCHED};
+        uint64_t rated[4] = {UNTOUCHED, UNTOUCHED, UNTOUCHED, UNTOUCHED};
+        struct asked a = four;
+        rows[at] = 2;
+        a.rows = rows;
+        struct pavrenni_batch b = decode_batch(&end, &a, out);
+        CHECK(b.code == PAVRENNI_STUCK && b.first == at && b.second == 1);
+        /* before the shape */
+        a.true_width = 2;
+        struct pavrenni_rate r = rate(&end, &a, rated);
+        CHECK(r.code == PAVRENNI_STUCK && r.first == at && r.second == 1 && r.rate == 0.0);
+        for (size_t i = 0; i < 4; i++) {
+            CHECK(out[i] == (i < at ? 1 : i == at ? 0 : UNTOUCHED) && rated[i] == out[i]);
+        }
+    }
+}
+
 static void batches(const struct graph *graph)
 {
-    const uint64_t rows[4] = {0, 1, 2, 3};
     uint64_t out[4] = {UNTOUCHED, UNTOUCHED, UNTOUCHED, UNTOUCHED};
-    CHECK(decode_batch(graph, rows, 4, out).code == PAVRENNI_DONE);
+    CHECK(decode_batch(graph, &four, out).code == PAVRENNI_DONE);
     CHECK(out[0] == 0 && out[1] == 1 && out[2] == 1 && out[3] == 0);
-    CHECK(decode_batch(graph, rows, 3, out).code == PAVRENNI_LENGTH);
-    CHECK(decode_batch(graph, rows, 16777217, out).code == PAVRENNI_LIMIT);
-
-    /* a boundary edge alone: the third shot is Stuck at detector 1 */
-    struct graph end = {.detectors = 2, .observables = 1, .edges = 1, .edge_v = {PAVRENNI_BOUNDARY}, .edge_obs = {1}};
-    uint64_t left[4] = {UNTOUCHED, UNTOUCHED, UNTOUCHED, UNTOUCHED};
-    struct pavrenni_batch answer = decode_batch(&end, rows, 4, left);
-    CHECK(answer.code == PAVRENNI_STUCK && answer.first == 2 && answer.second == 1);
-    CHECK(left[0] == 0 && left[1] == 1 && left[2] == 0 && left[3] == UNTOUCHED);
+    refusals(graph);
+    stuck();
 }
 
 static void marks(const struct graph *graph)
@@ -280,15 +381,35 @@ static void marks(const struct graph *graph)
 
 static void rates(const struct graph *graph)
 {
-    const uint64_t rows[4] = {0, 1, 2, 3};
-    const uint64_t truth[4] = {0, 1, 0, 0};
+    const uint64_t padded[4] = {0, 1, 2, 0};
     uint64_t out[4] = {UNTOUCHED, UNTOUCHED, UNTOUCHED, UNTOUCHED};
-    struct pavrenni_rate answer = rate(graph, rows, truth, 1, out);
+    struct asked a = four;
+    struct pavrenni_rate answer = rate(graph, &a, out);
     CHECK(answer.code == PAVRENNI_DONE && answer.rate == 0.25);
     CHECK(out[0] == 0 && out[1] == 1 && out[2] == 1 && out[3] == 0);
+
+    /* the true observables: their count, their packing */
+    RATE_REFUSED(a.true_shots = 16777217, PAVRENNI_LIMIT, 0);
+    RATE_REFUSED(a.truth_len = 3, PAVRENNI_LENGTH, 0);
+    RATE_REFUSED(a.truth_len = 0, PAVRENNI_LENGTH, 0);
+    RATE_REFUSED(a.true_width = SIZE_MAX, PAVRENNI_LENGTH, 0);
+    RATE_REFUSED(a.truth = padded, PAVRENNI_PADDING, 2);
+    /* which comes before the width */
+    RATE_REFUSED((a.truth = padded, a.width = 3), PAVRENNI_PADDING, 2);
+
+    /* and their shape: the rows are done */
     memset(out, 1, sizeof out);
-    CHECK(rate(graph, rows, truth, 2, out).code == PAVRENNI_SHAPE);
+    a.true_width = 2;
+    CHECK(rate(graph, &a, out).code == PAVRENNI_SHAPE);
     CHECK(out[0] == 0 && out[1] == 1 && out[2] == 1 && out[3] == 0);
+    a = four;
+    a.true_shots = a.truth_len = 3;
+    CHECK(rate(graph, &a, out).code == PAVRENNI_SHAPE);
+
+    /* no shots */
+    a.shots = a.rows_len = a.true_shots = a.truth_len = 0;
+    answer = rate(graph, &a, out);
+    CHECK(answer.code == PAVRENNI_DONE && answer.rate == 0.0);
 }
 
 static void lengths(void)

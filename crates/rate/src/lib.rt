@@ -1,42 +1,440 @@
-// The logical error rate of a batch: document 01, "Rate".
-use codes::Refusal;
+// The logical error rate of a batch: document 01, "Rate". The call checks all that it is handed, puts its scratch to rest, decodes its shots and compares their rows with the true ones.
+// One step a function, and the slices that it writes first: else the checker does not come to an end.
+use codes::Checked;
+use failures::ErrorRate;
 ghost use mathlib.Core.Path.{_≡_};
-ghost use mathlib.Core.Bool.{true};
 ghost use lib.ListN.{length};
-ghost use Rattle.bits.specs.Rows.{words, isClear};
-ghost use Rattle.rate.specs.Rate.{differs, rateOf};
+ghost use Rattle.scratch.specs.Scratch.{lengthsOf};
+ghost use Rattle.calls.specs.Call.{lentOf};
+ghost use Rattle.tabled.specs.Tabled.{Graphed};
+ghost use Rattle.tabled.specs.Long.{cleanLong};
+ghost use Rattle.batch.specs.Batch.{handed, ownLong};
+ghost use Rattle.rate.specs.Rate.{compared, Rates};
 
-pub enum ErrorRate {
-    // failures divided by shots
-    Rate(f64),
-    Refused(Refusal),
+// The call checked, its shots decoded and their rows compared. Long for its parameters, one a line.
+fn rate_checked(
+    out: &mut [u64],
+    list: &mut [u32],
+    defects: &mut [u32],
+    seen: &mut [u32],
+    active: &mut [u32],
+    front: &mut [u32],
+    touched: &mut [u32],
+    cnt: &mut [u8],
+    fresh: &mut [u32],
+    order_edge: &mut [u32],
+    order_parent: &mut [u32],
+    lit: &mut [bool],
+    growth: &mut [f64],
+    sat: &mut [bool],
+    known: &mut [bool],
+    parent: &mut [u32],
+    odd: &mut [bool],
+    boundary_edge: &mut [u32],
+    hot: &mut [bool],
+    free: &mut [bool],
+    live: &mut [bool],
+    bits: &mut [u64],
+    detectors: usize,
+    observables: usize,
+    edges: usize,
+    edge_u: &[u32],
+    edge_v: &[u32],
+    edge_weight: &[f64],
+    edge_obs: &[u64],
+    adj_offsets: &[u32],
+    adj_edge: &[u32],
+    adj_far: &[u32],
+    rows: &[u64],
+    shots: usize,
+    width: usize,
+    truth: &[u64],
+    true_shots: usize,
+    true_width: usize,
+    graph: Checked,
+    long: bool,
+) -> ErrorRate
+    requires { ⌜ Graphed (lentOf detectors observables edges (now «edge_u») (now «edge_v») (now «edge_weight») (now «edge_obs»)) graph (now «adj_offsets») (now «adj_edge») (now «adj_far») ⌝ }
+    requires { ⌜ long ≡ ownLong (handed (lentOf detectors observables edges (now «edge_u») (now «edge_v») (now «edge_weight») (now «edge_obs»)) (now rows) shots width (now out) (length (now list)) (lengthsOf (length (now «adj_offsets»)) (length (now «adj_edge»)) (length (now «adj_far»)) (length (now defects)) (length (now seen)) (length (now active)) (length (now front)) (length (now touched)) (length (now cnt)) (length (now fresh)) (length (now «order_edge»)) (length (now «order_parent»)) (length (now lit)) (length (now growth)) (length (now sat)) (length (now known)) (length (now parent)) (length (now odd)) (length (now «boundary_edge»)) (length (now hot)) (length (now free)) (length (now live)) (length (now bits)))) ⌝ }
+    ensures { λ r. ⌜ Rates (compared (handed (lentOf detectors observables edges (now («edge_u» .entry)) (now («edge_v» .entry)) (now («edge_weight» .entry)) (now («edge_obs» .entry))) (now (rows .entry)) shots width (now (out .entry)) (length (now (list .entry))) (lengthsOf (length (now («adj_offsets» .entry))) (length (now («adj_edge» .entry))) (length (now («adj_far» .entry))) (length (now (defects .entry))) (length (now (seen .entry))) (length (now (active .entry))) (length (now (front .entry))) (length (now (touched .entry))) (length (now (cnt .entry))) (length (now (fresh .entry))) (length (now («order_edge» .entry))) (length (now («order_parent» .entry))) (length (now (lit .entry))) (length (now (growth .entry))) (length (now (sat .entry))) (length (now (known .entry))) (length (now (parent .entry))) (length (now (odd .entry))) (length (now («boundary_edge» .entry))) (length (now (hot .entry))) (length (now (free .entry))) (length (now (live .entry))) (length (now (bits .entry))))) (now (truth .entry)) «true_shots» «true_width») r (now (out .exit)) ⌝ }
+{
+    let checked = rate_checks::check_rate(
+        detectors,
+        observables,
+        edges,
+        edge_u,
+        edge_v,
+        edge_weight,
+        edge_obs,
+        long,
+        graph,
+        rows,
+        shots,
+        width,
+        truth,
+        true_shots,
+        true_width,
+    );
+    if let Checked::Refused(r) = checked {
+        return ErrorRate::Refused(r);
+    }
+    let decoded = batch_starts::decode_parts(
+        out,
+        list,
+        defects,
+        seen,
+        active,
+        front,
+        touched,
+        cnt,
+        fresh,
+        order_edge,
+        order_parent,
+        lit,
+        growth,
+        sat,
+        known,
+        parent,
+        odd,
+        boundary_edge,
+        hot,
+        free,
+        live,
+        bits,
+        detectors,
+        observables,
+        edges,
+        edge_u,
+        edge_v,
+        edge_weight,
+        edge_obs,
+        adj_offsets,
+        adj_edge,
+        adj_far,
+        rows,
+        shots,
+    );
+    failures::rate_answer(
+        decoded,
+        observables,
+        shots,
+        out,
+        truth,
+        true_shots,
+        true_width,
+    )
 }
 
-// Whether two rows differ in an observable. The padding of both is clear, so their words decide.
-pub fn row_differs(observables: usize, predicted: &[u64], actual: &[u64]) -> bool
-    requires { ⌜ (length (now predicted) ≡ words observables) × (length (now actual) ≡ words observables) × (isClear observables (now predicted) ≡ true) × (isClear observables (now actual) ≡ true) ⌝ }
-    ensures { λ r. ⌜ r ≡ differs observables (now (predicted .entry)) (now (actual .entry)) ⌝ }
+// The other slices tested by their lengths. Long for its parameters, one a line.
+fn rate_long(
+    out: &mut [u64],
+    list: &mut [u32],
+    defects: &mut [u32],
+    seen: &mut [u32],
+    active: &mut [u32],
+    front: &mut [u32],
+    touched: &mut [u32],
+    cnt: &mut [u8],
+    fresh: &mut [u32],
+    order_edge: &mut [u32],
+    order_parent: &mut [u32],
+    lit: &mut [bool],
+    growth: &mut [f64],
+    sat: &mut [bool],
+    known: &mut [bool],
+    parent: &mut [u32],
+    odd: &mut [bool],
+    boundary_edge: &mut [u32],
+    hot: &mut [bool],
+    free: &mut [bool],
+    live: &mut [bool],
+    bits: &mut [u64],
+    detectors: usize,
+    observables: usize,
+    edges: usize,
+    edge_u: &[u32],
+    edge_v: &[u32],
+    edge_weight: &[f64],
+    edge_obs: &[u64],
+    adj_offsets: &[u32],
+    adj_edge: &[u32],
+    adj_far: &[u32],
+    rows: &[u64],
+    shots: usize,
+    width: usize,
+    truth: &[u64],
+    true_shots: usize,
+    true_width: usize,
+    graph: Checked,
+    clean: bool,
+) -> ErrorRate
+    requires { ⌜ Graphed (lentOf detectors observables edges (now «edge_u») (now «edge_v») (now «edge_weight») (now «edge_obs»)) graph (now «adj_offsets») (now «adj_edge») (now «adj_far») ⌝ }
+    requires { ⌜ clean ≡ cleanLong detectors edges (length (now lit)) (length (now growth)) (length (now sat)) (length (now known)) (length (now parent)) (length (now odd)) (length (now «boundary_edge»)) (length (now hot)) (length (now free)) (length (now live)) (length (now bits)) ⌝ }
+    ensures { λ r. ⌜ Rates (compared (handed (lentOf detectors observables edges (now («edge_u» .entry)) (now («edge_v» .entry)) (now («edge_weight» .entry)) (now («edge_obs» .entry))) (now (rows .entry)) shots width (now (out .entry)) (length (now (list .entry))) (lengthsOf (length (now («adj_offsets» .entry))) (length (now («adj_edge» .entry))) (length (now («adj_far» .entry))) (length (now (defects .entry))) (length (now (seen .entry))) (length (now (active .entry))) (length (now (front .entry))) (length (now (touched .entry))) (length (now (cnt .entry))) (length (now (fresh .entry))) (length (now («order_edge» .entry))) (length (now («order_parent» .entry))) (length (now (lit .entry))) (length (now (growth .entry))) (length (now (sat .entry))) (length (now (known .entry))) (length (now (parent .entry))) (length (now (odd .entry))) (length (now («boundary_edge» .entry))) (length (now (hot .entry))) (length (now (free .entry))) (length (now (live .entry))) (length (now (bits .entry))))) (now (truth .entry)) «true_shots» «true_width») r (now (out .exit)) ⌝ }
 {
-    let mut next = 0;
-    while next < predicted.len() {
-        let i = next;
-        next += 1;
-        if predicted[i] != actual[i] {
-            return true;
-        }
-    }
-    false
+    let long = tabled::own_long(
+        detectors,
+        observables,
+        edges,
+        shots,
+        out.len(),
+        list.len(),
+        adj_offsets.len(),
+        adj_edge.len(),
+        adj_far.len(),
+        defects.len(),
+        seen.len(),
+        active.len(),
+        front.len(),
+        touched.len(),
+        cnt.len(),
+        fresh.len(),
+        order_edge.len(),
+        order_parent.len(),
+        clean,
+    );
+    rate_checked(
+        out,
+        list,
+        defects,
+        seen,
+        active,
+        front,
+        touched,
+        cnt,
+        fresh,
+        order_edge,
+        order_parent,
+        lit,
+        growth,
+        sat,
+        known,
+        parent,
+        odd,
+        boundary_edge,
+        hot,
+        free,
+        live,
+        bits,
+        detectors,
+        observables,
+        edges,
+        edge_u,
+        edge_v,
+        edge_weight,
+        edge_obs,
+        adj_offsets,
+        adj_edge,
+        adj_far,
+        rows,
+        shots,
+        width,
+        truth,
+        true_shots,
+        true_width,
+        graph,
+        long,
+    )
 }
 
-// Failures divided by shots, rounded once: both are below 2^32, so neither loses a digit.
-pub fn rate_of(observables: usize, failures: u32, shots: u32) -> f64
-    ensures { λ r. ⌜ r ≡ rateOf observables failures shots ⌝ }
+// The tables that are put to rest tested by their lengths. An export calls this after it has checked the graph: it bears no call with all of the slices. Long for its parameters, one a line.
+pub fn rate_clean(
+    out: &mut [u64],
+    list: &mut [u32],
+    defects: &mut [u32],
+    seen: &mut [u32],
+    active: &mut [u32],
+    front: &mut [u32],
+    touched: &mut [u32],
+    cnt: &mut [u8],
+    fresh: &mut [u32],
+    order_edge: &mut [u32],
+    order_parent: &mut [u32],
+    lit: &mut [bool],
+    growth: &mut [f64],
+    sat: &mut [bool],
+    known: &mut [bool],
+    parent: &mut [u32],
+    odd: &mut [bool],
+    boundary_edge: &mut [u32],
+    hot: &mut [bool],
+    free: &mut [bool],
+    live: &mut [bool],
+    bits: &mut [u64],
+    detectors: usize,
+    observables: usize,
+    edges: usize,
+    edge_u: &[u32],
+    edge_v: &[u32],
+    edge_weight: &[f64],
+    edge_obs: &[u64],
+    adj_offsets: &[u32],
+    adj_edge: &[u32],
+    adj_far: &[u32],
+    rows: &[u64],
+    shots: usize,
+    width: usize,
+    truth: &[u64],
+    true_shots: usize,
+    true_width: usize,
+    graph: Checked,
+) -> ErrorRate
+    requires { ⌜ Graphed (lentOf detectors observables edges (now «edge_u») (now «edge_v») (now «edge_weight») (now «edge_obs»)) graph (now «adj_offsets») (now «adj_edge») (now «adj_far») ⌝ }
+    ensures { λ r. ⌜ Rates (compared (handed (lentOf detectors observables edges (now («edge_u» .entry)) (now («edge_v» .entry)) (now («edge_weight» .entry)) (now («edge_obs» .entry))) (now (rows .entry)) shots width (now (out .entry)) (length (now (list .entry))) (lengthsOf (length (now («adj_offsets» .entry))) (length (now («adj_edge» .entry))) (length (now («adj_far» .entry))) (length (now (defects .entry))) (length (now (seen .entry))) (length (now (active .entry))) (length (now (front .entry))) (length (now (touched .entry))) (length (now (cnt .entry))) (length (now (fresh .entry))) (length (now («order_edge» .entry))) (length (now («order_parent» .entry))) (length (now (lit .entry))) (length (now (growth .entry))) (length (now (sat .entry))) (length (now (known .entry))) (length (now (parent .entry))) (length (now (odd .entry))) (length (now («boundary_edge» .entry))) (length (now (hot .entry))) (length (now (free .entry))) (length (now (live .entry))) (length (now (bits .entry))))) (now (truth .entry)) «true_shots» «true_width») r (now (out .exit)) ⌝ }
 {
-    if shots == 0 {
-        return 0.0;
-    }
-    if observables == 0 {
-        return 0.0;
-    }
-    (failures as f64) / (shots as f64)
+    let clean = tabled::clean_long(
+        detectors,
+        edges,
+        lit.len(),
+        growth.len(),
+        sat.len(),
+        known.len(),
+        parent.len(),
+        odd.len(),
+        boundary_edge.len(),
+        hot.len(),
+        free.len(),
+        live.len(),
+        bits.len(),
+    );
+    rate_long(
+        out,
+        list,
+        defects,
+        seen,
+        active,
+        front,
+        touched,
+        cnt,
+        fresh,
+        order_edge,
+        order_parent,
+        lit,
+        growth,
+        sat,
+        known,
+        parent,
+        odd,
+        boundary_edge,
+        hot,
+        free,
+        live,
+        bits,
+        detectors,
+        observables,
+        edges,
+        edge_u,
+        edge_v,
+        edge_weight,
+        edge_obs,
+        adj_offsets,
+        adj_edge,
+        adj_far,
+        rows,
+        shots,
+        width,
+        truth,
+        true_shots,
+        true_width,
+        graph,
+        clean,
+    )
+}
+
+// The graph checked and the edges at each detector made, once; then the call. Long for its parameters, one a line.
+pub fn logical_error_rate(
+    out: &mut [u64],
+    list: &mut [u32],
+    adj_offsets: &mut [u32],
+    adj_edge: &mut [u32],
+    adj_far: &mut [u32],
+    defects: &mut [u32],
+    seen: &mut [u32],
+    active: &mut [u32],
+    front: &mut [u32],
+    touched: &mut [u32],
+    cnt: &mut [u8],
+    fresh: &mut [u32],
+    order_edge: &mut [u32],
+    order_parent: &mut [u32],
+    lit: &mut [bool],
+    growth: &mut [f64],
+    sat: &mut [bool],
+    known: &mut [bool],
+    parent: &mut [u32],
+    odd: &mut [bool],
+    boundary_edge: &mut [u32],
+    hot: &mut [bool],
+    free: &mut [bool],
+    live: &mut [bool],
+    bits: &mut [u64],
+    detectors: usize,
+    observables: usize,
+    edges: usize,
+    edge_u: &[u32],
+    edge_v: &[u32],
+    edge_weight: &[f64],
+    edge_obs: &[u64],
+    rows: &[u64],
+    shots: usize,
+    width: usize,
+    truth: &[u64],
+    true_shots: usize,
+    true_width: usize,
+) -> ErrorRate
+    ensures { λ r. ⌜ Rates (compared (handed (lentOf detectors observables edges (now («edge_u» .entry)) (now («edge_v» .entry)) (now («edge_weight» .entry)) (now («edge_obs» .entry))) (now (rows .entry)) shots width (now (out .entry)) (length (now (list .entry))) (lengthsOf (length (now («adj_offsets» .entry))) (length (now («adj_edge» .entry))) (length (now («adj_far» .entry))) (length (now (defects .entry))) (length (now (seen .entry))) (length (now (active .entry))) (length (now (front .entry))) (length (now (touched .entry))) (length (now (cnt .entry))) (length (now (fresh .entry))) (length (now («order_edge» .entry))) (length (now («order_parent» .entry))) (length (now (lit .entry))) (length (now (growth .entry))) (length (now (sat .entry))) (length (now (known .entry))) (length (now (parent .entry))) (length (now (odd .entry))) (length (now («boundary_edge» .entry))) (length (now (hot .entry))) (length (now (free .entry))) (length (now (live .entry))) (length (now (bits .entry))))) (now (truth .entry)) «true_shots» «true_width») r (now (out .exit)) ⌝ }
+{
+    let graph = tabled::check_graph(
+        adj_offsets,
+        adj_edge,
+        adj_far,
+        detectors,
+        observables,
+        edges,
+        edge_u,
+        edge_v,
+        edge_weight,
+        edge_obs,
+    );
+    rate_clean(
+        out,
+        list,
+        defects,
+        seen,
+        active,
+        front,
+        touched,
+        cnt,
+        fresh,
+        order_edge,
+        order_parent,
+        lit,
+        growth,
+        sat,
+        known,
+        parent,
+        odd,
+        boundary_edge,
+        hot,
+        free,
+        live,
+        bits,
+        detectors,
+        observables,
+        edges,
+        edge_u,
+        edge_v,
+        edge_weight,
+        edge_obs,
+        adj_offsets,
+        adj_edge,
+        adj_far,
+        rows,
+        shots,
+        width,
+        truth,
+        true_shots,
+        true_width,
+        graph,
+    )
 }

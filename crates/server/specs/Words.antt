@@ -12,11 +12,15 @@ use Rattle.decoder.specs.declared.Answer.{Answer}
 use Rattle.decoder.specs.declared.Answer.the-variants as answer
 use Rattle.marking.specs.declared.Marking.{Marking}
 use Rattle.marking.specs.declared.Marking.the-variants as marking
+use Rattle.weight.specs.Weight.{zero64}
+use Rattle.failures.specs.declared.ErrorRate.{ErrorRate}
+use Rattle.failures.specs.declared.ErrorRate.the-variants as error-rate
 use Rattle.server.specs.declared.ModelWords.{ModelWords}
 use Rattle.server.specs.declared.GraphWords.{GraphWords}
 use Rattle.server.specs.declared.ShotWords.{ShotWords}
 use Rattle.server.specs.declared.BatchWords.{BatchWords}
 use Rattle.server.specs.declared.MarkWords.{MarkWords}
+use Rattle.server.specs.declared.RateWords.{RateWords}
 
 -- what an export promises: its words are those of an answer of which the call's own promise P holds
 pub record InWords {A W : Type 0} (words : A → W) (P : A → Type 0) (r : W) : Type 0 where
@@ -56,3 +60,9 @@ wordsOfShot (answer.Refused r) = record { code = codeOf r; first = firstOf r; se
 abbrev pub wordsOfBatch : Checked → BatchWords
 wordsOfBatch checked.Accepted = record { code = 0; first = 0; second = 0 }
 wordsOfBatch (checked.Refused r) = record { code = codeOf r; first = firstOf r; second = secondOf r }
+
+-- ---- the rate
+
+abbrev pub wordsOfRate : ErrorRate → RateWords
+wordsOfRate (error-rate.Rate x) = record { code = 0; first = 0; second = 0; rate = x }
+wordsOfRate (error-rate.Refused r) = record { code = codeOf r; first = firstOf r; second = secondOf r; rate = zero64 }

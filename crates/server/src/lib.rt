@@ -2,6 +2,7 @@
 use codes::Checked;
 use decoder::Answer;
 use decomposed::Decomposed;
+use failures::ErrorRate;
 use graph::Compiled;
 use marking::Marking;
 use scratch::Lengths;
@@ -11,6 +12,7 @@ ghost use lib.ListN.{length};
 ghost use Rattle.scratch.specs.Scratch.{lengthsOf};
 ghost use Rattle.decoder.specs.Answer.{handed, Decodes};
 ghost use Rattle.batch.specs.Batch as batched;
+ghost use Rattle.rate.specs.Rate.{compared, Rates};
 ghost use Rattle.marker.specs.Answer.{Marks};
 ghost use Rattle.dem.specs.Positions.{tables};
 ghost use Rattle.decomposed.specs.Call as decomposition;
@@ -20,7 +22,7 @@ ghost use Rattle.graph.specs.Outcome.{outcome, Compiles};
 ghost use Prim.Native.Nat.{_≤_};
 ghost use Rattle.codes.specs.Limits.{maxMechanisms};
 ghost use Rattle.server.specs.Lengths.{within, decodeLengths, decomposeWith, decomposeLengths, compileWith, compileLengths, markWith, markLengths};
-ghost use Rattle.server.specs.Words.{InWords, wordsOfModel, wordsOfGraph, wordsOfMark, wordsOfShot, wordsOfBatch};
+ghost use Rattle.server.specs.Words.{InWords, wordsOfModel, wordsOfGraph, wordsOfMark, wordsOfShot, wordsOfBatch, wordsOfRate};
 
 // The answer of compiling.
 #[repr(C)]
@@ -607,5 +609,132 @@ pub extern "C" fn pavrenni_decode_batch(
         rows,
         shots,
         width,
+    ))
+}
+
+// The answer of the rate.
+#[repr(C)]
+pub struct RateWords {
+    pub code: u32,
+    pub first: usize,
+    pub second: usize,
+    pub rate: f64,
+}
+
+fn rate_words(a: ErrorRate) -> RateWords
+    ensures { λ r. ⌜ r ≡ wordsOfRate a ⌝ }
+{
+    match a {
+        ErrorRate::Rate(rate) => RateWords {
+            code: 0,
+            first: 0,
+            second: 0,
+            rate: rate,
+        },
+        ErrorRate::Refused(r) => RateWords {
+            code: codes::code(r) as u32,
+            first: codes::first_value(r),
+            second: codes::second_value(r) as usize,
+            rate: 0.0,
+        },
+    }
+}
+
+// The logical error rate, in the two steps of `rate::logical_error_rate`: a call with all of the slices and the true observables is over the checker's limit of steps. Long for its parameters, one a line.
+#[no_mangle]
+pub extern "C" fn pavrenni_rate(
+    out: &mut [u64],
+    list: &mut [u32],
+    adj_offsets: &mut [u32],
+    adj_edge: &mut [u32],
+    adj_far: &mut [u32],
+    defects: &mut [u32],
+    seen: &mut [u32],
+    active: &mut [u32],
+    front: &mut [u32],
+    touched: &mut [u32],
+    cnt: &mut [u8],
+    fresh: &mut [u32],
+    order_edge: &mut [u32],
+    order_parent: &mut [u32],
+    lit: &mut [bool],
+    growth: &mut [f64],
+    sat: &mut [bool],
+    known: &mut [bool],
+    parent: &mut [u32],
+    odd: &mut [bool],
+    boundary_edge: &mut [u32],
+    hot: &mut [bool],
+    free: &mut [bool],
+    live: &mut [bool],
+    bits: &mut [u64],
+    detectors: usize,
+    observables: usize,
+    edges: usize,
+    edge_u: &[u32],
+    edge_v: &[u32],
+    edge_weight: &[f64],
+    edge_obs: &[u64],
+    rows: &[u64],
+    shots: usize,
+    width: usize,
+    truth: &[u64],
+    true_shots: usize,
+    true_width: usize,
+) -> RateWords
+    ensures { λ r. ⌜ InWords wordsOfRate (λ a. Rates (compared (batched.handed (lentOf detectors observables edges (now («edge_u» .entry)) (now («edge_v» .entry)) (now («edge_weight» .entry)) (now («edge_obs» .entry))) (now (rows .entry)) shots width (now (out .entry)) (length (now (list .entry))) (lengthsOf (length (now («adj_offsets» .entry))) (length (now («adj_edge» .entry))) (length (now («adj_far» .entry))) (length (now (defects .entry))) (length (now (seen .entry))) (length (now (active .entry))) (length (now (front .entry))) (length (now (touched .entry))) (length (now (cnt .entry))) (length (now (fresh .entry))) (length (now («order_edge» .entry))) (length (now («order_parent» .entry))) (length (now (lit .entry))) (length (now (growth .entry))) (length (now (sat .entry))) (length (now (known .entry))) (length (now (parent .entry))) (length (now (odd .entry))) (length (now («boundary_edge» .entry))) (length (now (hot .entry))) (length (now (free .entry))) (length (now (live .entry))) (length (now (bits .entry))))) (now (truth .entry)) «true_shots» «true_width») a (now (out .exit))) r ⌝ }
+{
+    let graph = tabled::check_graph(
+        adj_offsets,
+        adj_edge,
+        adj_far,
+        detectors,
+        observables,
+        edges,
+        edge_u,
+        edge_v,
+        edge_weight,
+        edge_obs,
+    );
+    rate_words(rate::rate_clean(
+        out,
+        list,
+        defects,
+        seen,
+        active,
+        front,
+        touched,
+        cnt,
+        fresh,
+        order_edge,
+        order_parent,
+        lit,
+        growth,
+        sat,
+        known,
+        parent,
+        odd,
+        boundary_edge,
+        hot,
+        free,
+        live,
+        bits,
+        detectors,
+        observables,
+        edges,
+        edge_u,
+        edge_v,
+        edge_weight,
+        edge_obs,
+        adj_offsets,
+        adj_edge,
+        adj_far,
+        rows,
+        shots,
+        width,
+        truth,
+        true_shots,
+        true_width,
+        graph,
     ))
 }

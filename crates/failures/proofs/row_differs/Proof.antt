@@ -1,4 +1,4 @@
--- `rate::row_differs` meets its contract. The invariant: the words before the next one are the same.
+-- `failures::row_differs` meets its contract. The invariant: the words before the next one are the same.
 use Prim.Native.Nat.{ℕ, _-_, _≤_, _<_}
 use mathlib.Core.Path.{_≡_, sym, _∙_}
 use native.Mathlib.Omega.{arith}
@@ -7,9 +7,9 @@ use lib.Dec.{eqb}
 use lib.ListN.{length, getD}
 use borrow.Author.Tests.{eqb-true, eqb-false}
 use Rattle.lists.proofs.Truth.{case-of}
-use Rattle.rate.proofs.Differs.{none-differs, one-differs, all-same}
-use Rattle.rate.proofs.row_differs.Statement.{statement}
-use Rattle.rate.proofs.row_differs.Tie as tie
+use Rattle.failures.proofs.Differs.{none-differs, one-differs, all-same}
+use Rattle.failures.proofs.row_differs.Statement.{statement}
+use Rattle.failures.proofs.row_differs.Tie as tie
 
 abbrev Inv-loop : tie.InvT-loop
 Inv-loop observables predicted actual next₀ next = (next ≤ length predicted) × ((i : ℕ) → i < next → getD predicted i 0 ≡ getD actual i 0)

@@ -1,9 +1,9 @@
--- `rate::rate_of` meets its contract: each return rewrites by the tests that led there.
+-- `failures::rate_of` meets its contract: each return rewrites by the tests that led there.
 use borrow.Author.Tests.{eq-eqb, ne-eqb}
-use Rattle.rate.specs.Rate.{rateOf}
+use Rattle.failures.specs.Failures.{rateOf}
 use borrow.Author.Needs.{needs}
-use Rattle.rate.proofs.rate_of.Statement.{statement}
-use Rattle.rate.proofs.rate_of.Tie as tie
+use Rattle.failures.proofs.rate_of.Statement.{statement}
+use Rattle.failures.proofs.rate_of.Tie as tie
 
 returns : tie.Need-returns
 unfolding rateOf

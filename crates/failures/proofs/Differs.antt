@@ -14,7 +14,7 @@ use Rattle.lists.proofs.Members.{any-none, below-member}
 use Rattle.lists.proofs.Ranges.{from-any}
 use Rattle.bits.specs.Rows.{words, bit, isClear, AreWords}
 use Rattle.bits.proofs.Rows.{same-bits, clear-bits}
-use Rattle.rate.specs.Rate.{differs}
+use Rattle.failures.specs.Failures.{differs}
 
 module _ (o : ℕ) (a b : List ℕ) where
   -- the same words: no observable differs
