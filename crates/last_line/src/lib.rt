@@ -10,6 +10,7 @@ ghost use Rattle.last_line.specs.Last.{rateOf, refusalText, rateText, la
 
 // The bits of the rate: both counts are below 2^32, so neither loses a digit, and the quotient is no NaN.
 fn rate_bits(observables: usize, failures: u32, shots: u32) -> u64
+    requires { ⌜ failures ≤ shots ⌝ }
     ensures { λ r. ⌜ r ≡ toBits binary64 (rateOf observables failures shots) ⌝ }
 {
     if shots == 0 {
@@ -31,7 +32,7 @@ pub fn write_refusal(r: Refusal, out: &mut [u8]) -> usize
 
 // 8f.
 fn write_rate(observables: usize, failures: u32, shots: u32, out: &mut [u8]) -> usize
-    requires { ⌜ 35 ≤ length (now out) ⌝ }
+    requires { ⌜ (failures ≤ shots) × (35 ≤ length (now out)) ⌝ }
     ensures { λ n. ⌜ (n ≡ length (rateText observables failures shots)) × (now (out .exit) ≡ written (rateText observables failures shots) (now (out .entry))) ⌝ }
 {
     let bits = rate_bits(observables, failures, shots);
@@ -40,7 +41,7 @@ fn write_rate(observables: usize, failures: u32, shots: u32, out: &mut [u8]) -> 
 
 // 8f, or the refusal of an input that ends too early.
 pub fn write_last(end: Checked, observables: usize, failures: u32, shots: u32, out: &mut [u8]) -> usize
-    requires { ⌜ 35 ≤ length (now out) ⌝ }
+    requires { ⌜ (failures ≤ shots) × (35 ≤ length (now out)) ⌝ }
     ensures { λ n. ⌜ (n ≡ length (lastText end observables failures shots)) × (now (out .exit) ≡ written (lastText end observables failures shots) (now (out .entry))) ⌝ }
 {
     match end {
