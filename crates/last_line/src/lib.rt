@@ -40,7 +40,13 @@ fn write_rate(observables: usize, failures: u32, shots: u32, out: &mut [u8]) -> 
 }
 
 // 8f, or the refusal of an input that ends too early.
-pub fn write_last(end: Checked, observables: usize, failures: u32, shots: u32, out: &mut [u8]) -> usize
+pub fn write_last(
+    end: Checked,
+    observables: usize,
+    failures: u32,
+    shots: u32,
+    out: &mut [u8],
+) -> usize
     requires { ⌜ (failures ≤ shots) × (35 ≤ length (now out)) ⌝ }
     ensures { λ n. ⌜ (n ≡ length (lastText end observables failures shots)) × (now (out .exit) ≡ written (lastText end observables failures shots) (now (out .entry))) ⌝ }
 {

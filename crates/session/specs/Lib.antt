@@ -1,3 +1,2 @@
 pub mod Output
-pub mod Example
 pub mod Kept
