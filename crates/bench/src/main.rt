@@ -186,7 +186,7 @@ fn main() {
         match next {
             Turn::Ended => return,
             Turn::Last { numbers, used } => {
-                let n = stream::finish(
+                let n = input_end::finish(
                     numbers,
                     used,
                     &line,

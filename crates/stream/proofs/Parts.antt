@@ -22,10 +22,10 @@ closed s t b m x o n y f g = record {
   whole = λ rest. ap (λ (l : List ℕ). answers s (linesOf (b ++ l))) (append-assoc m n rest) ∙ f .whole (n ++ rest) ∙ ap (λ (l : List ℕ). x ++ l) (g .whole rest);
 }
 
-all : (input text open : List ℕ) (s : Session) → Comes begin [] input text s open → outputOf input ≡ text ++ answers s (linesOf open)
+all : (input text pending : List ℕ) (s : Session) → Comes begin [] input text s pending → outputOf input ≡ text ++ answers s (linesOf pending)
 unfolding outputOf
-all input text open s f =
-    ap (λ (l : List ℕ). answers begin (linesOf l)) (sym (append-nil input)) ∙ f .whole [] ∙ ap (λ (l : List ℕ). text ++ answers s (linesOf l)) (append-nil open)
+all input text pending s f =
+    ap (λ (l : List ℕ). answers begin (linesOf l)) (sym (append-nil input)) ∙ f .whole [] ∙ ap (λ (l : List ℕ). text ++ answers s (linesOf l)) (append-nil pending)
 
 ended : (input text rest : List ℕ) → Closes begin [] input text → outputOf (input ++ rest) ≡ text
 unfolding outputOf
