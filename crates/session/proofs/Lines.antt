@@ -42,7 +42,7 @@ pub record Same (c d : Columns) : Type 0 where
 roomy-same : (c d : Columns) → Same c d → roomy d ≡ roomy c
 roomy-same c d e = rw (e .bits, e .detector-counts, e .observable-counts, e .component-counts, e .component-detectors, e .component-observables, e .entries, e .row, e .truth) refl
 
-sizes-same : (c d : Columns) (g : Slices) → Same c d → Sizes c g → Sizes d g
+pub sizes-same : (c d : Columns) (g : Slices) → Same c d → Sizes c g → Sizes d g
 sizes-same c d g e z = record {
   room = roomy-same c d e ∙ z .room;
   sized = record {
