@@ -82,7 +82,6 @@ module _ (n : Numbers) (c : Columns) (g : Slices) (line : List ℕ) (used : ℕ)
   cut = ap (λ (k : ℕ). take k line) (sub-zero used)
 
   module _ (s : Session) (e : n ≡ numbersOf s) (k : Keeps s c g) (z : Sizes c g) where
-
     tells : Tells (answerLine s (take used line)) r (midOf 0 (1066 - 0) out) part
     tells = subst (λ (l : List ℕ). Tells (answerLine s l) r (midOf 0 (1066 - 0) out) part) cut (a .answer s e k z)
 
@@ -120,9 +119,10 @@ module _ (n : Numbers) (c : Columns) (g : Slices) (line : List ℕ) (used : ℕ)
         let numbers : m ≡ numbersOf t = cc in
         let long : w ≡ length text = cc in
         let end : endOf m ≡ endText t = end-is t m numbers in
-        let first : after ≡ written text out = front ∙ ap (λ (x : Answer). written (textOf x) out) o in
-        (ap₂ _+_ long (p .0 ∙ ap length end) ∙ sym (length-append text (endText t)),
-        two-lines text (endText t) out after tail w long first (p .1 ∙ ap (λ (l : List ℕ). written l (midOf w (length after - w) after)) end))
+        let first : after ≡ written text out = front ∙ ap (λ (x : Answer). written (textOf x) out) o in (
+          ap₂ _+_ long (p .0 ∙ ap length end) ∙ sym (length-append text (endText t)),
+          two-lines text (endText t) out after tail w long first (p .1 ∙ ap (λ (l : List ℕ). written l (midOf w (length after - w) after)) end),
+        )
 
     failures-by : (m : Numbers) (w : ℕ) → r ≡ told.On m w → (x : Answer) → answerLine s (take used line) ≡ x → Left x c′ g′ → m .failures ≤ m .shots
     failures-by m w q (ends y) o l = no-on (sym q ∙ tells .told ∙ ap toldOf o)

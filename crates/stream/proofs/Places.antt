@@ -39,47 +39,49 @@ module _ (p : Place) (c : Columns) (g : Slices) (block line out : List ℕ) (end
   -- too long
   pub feed-long : length line - p .used < end - p .taken → (r : Fed) (out′ : List ℕ) → (r ≡ fed.Ended (p .filled + length (refusalText Frame))) × Appended (p .filled) (refusalText Frame) out out′
       → Feeds p c g block line out r c g line out′ × Further p r
-  feed-long over r out′ e =
-      (λ s a.
-      let b = a .placed in
-      let n : length (begun ++ more) ≡ p .used + (end - p .taken)
-      = length-append begun more ∙ ap₂ _+_ (length-take-le (p .used) line (omega (arith, b .used, b .buffer))) (between-long block (p .taken) end (z .after) (z .within)) in
-      let long : longest < length (begun ++ more) = omega (arith, n, over, b .used, b .buffer) in
-      let closes : Closes s begun (drop (p .taken) block) (refusalText Frame)
-      = subst (λ (l : List ℕ). Closes s begun l (refusalText Frame)) (sym (between-rest block (p .taken) end (z .after)))
-      (long-closes s begun more (drop end block) (a .keeps .within) (unbroken s a) long) in
-      subst (λ (x : Fed). Reached s p x block line out c g line out′) (sym (e .0))
-      (record { text = refusalText Frame; closes = closes; counted = refl; fits = e .1 .fits; output = e .1 .output }),
-      subst (Further p) (sym (e .0)) tt)
+  feed-long over r out′ e = (
+    λ s a.
+        let b = a .placed in
+        let n : length (begun ++ more) ≡ p .used + (end - p .taken)
+        = length-append begun more ∙ ap₂ _+_ (length-take-le (p .used) line (omega (arith, b .used, b .buffer))) (between-long block (p .taken) end (z .after) (z .within)) in
+        let long : longest < length (begun ++ more) = omega (arith, n, over, b .used, b .buffer) in
+        let closes : Closes s begun (drop (p .taken) block) (refusalText Frame)
+        = subst (λ (l : List ℕ). Closes s begun l (refusalText Frame)) (sym (between-rest block (p .taken) end (z .after)))
+        (long-closes s begun more (drop end block) (a .keeps .within) (unbroken s a) long) in
+        subst (λ (x : Fed). Reached s p x block line out c g line out′) (sym (e .0))
+        (record { text = refusalText Frame; closes = closes; counted = refl; fits = e .1 .fits; output = e .1 .output }),
+    subst (Further p) (sym (e .0)) tt,
+  )
 
   module _ (room : end - p .taken ≤ length line - p .used) (line′ : List ℕ) (same : length line′ ≡ length line) (put : take (p .used + (end - p .taken)) line′ ≡ begun ++ more) where
     -- a part of a line, to the end of the block
     pub feed-part : end ≡ length block → p .taken < length block
         → let q : Place = record { numbers = p .numbers; used = p .used + (end - p .taken); taken = end; filled = p .filled } in Feeds p c g block line out (fed.On q) c g line′ out × Further p (fed.On q)
-    feed-part e less =
-        (λ s a.
-        let b = a .placed in
-        record {
-          session = s;
-          text = [];
-          at = record {
-            numbers = a .numbers;
-            keeps = a .keeps;
-            sizes = a .sizes;
-            placed = record {
-              buffer = same ∙ b .buffer;
-              used = omega (arith, room, b .used, b .buffer);
-              unbroken = ap unended put ∙ unbroken s a;
-              taken = z .within;
-              filled = b .filled;
+    feed-part e less = (
+      λ s a.
+          let b = a .placed in
+          record {
+            session = s;
+            text = [];
+            at = record {
+              numbers = a .numbers;
+              keeps = a .keeps;
+              sizes = a .sizes;
+              placed = record {
+                buffer = same ∙ b .buffer;
+                used = omega (arith, room, b .used, b .buffer);
+                unbroken = ap unended put ∙ unbroken s a;
+                taken = z .within;
+                filled = b .filled;
+              };
             };
-          };
-          onward = z .after;
-          comes = subst (λ (l : List ℕ). Comes s begun more [] s l) (sym put) (part-comes s begun more);
-          filled = omega arith;
-          output = sym (append-nil (take (p .filled) out));
-        },
-        omega (arith, e, less))
+            onward = z .after;
+            comes = subst (λ (l : List ℕ). Comes s begun more [] s l) (sym put) (part-comes s begun more);
+            filled = omega arith;
+            output = sym (append-nil (take (p .filled) out));
+          },
+      omega (arith, e, less),
+    )
 
     -- a whole line
     module _ (less : end < length block) (long : ℕ) (l : long ≡ p .used + (end - p .taken)) (r : Fed) (c′ : Columns) (g′ : Slices) (out′ : List ℕ) (w : Whole p (take long line′) (end + 1) c g out r c′ g′ out′) where
@@ -126,14 +128,15 @@ module _ (p : Place) (c : Columns) (g : Slices) (block line out : List ℕ) (end
       further-by (ends x) f = subst (Further p) (sym f) tt
 
       pub feed-whole : Standing p c g block line out → Feeds p c g block line out r c′ g′ line′ out′ × Further p r
-      feed-whole st =
-          (λ s at.
-          let a = answerLine s (take long line′) in
-          by-answer s at a (ap (answerLine s) (sym text-is)) (w .answer s (at .numbers) (at .keeps) (at .sizes)) (w .text s (at .numbers) (at .keeps) (at .sizes))
-          (w .tables s (at .numbers) (at .keeps) (at .sizes)),
-          let u = st .session in
-          let at = st .at in
-          further-by (answerLine u (take long line′)) (w .answer u (at .numbers) (at .keeps) (at .sizes)))
+      feed-whole st = (
+        λ s at.
+            let a = answerLine s (take long line′) in
+            by-answer s at a (ap (answerLine s) (sym text-is)) (w .answer s (at .numbers) (at .keeps) (at .sizes)) (w .text s (at .numbers) (at .keeps) (at .sizes))
+            (w .tables s (at .numbers) (at .keeps) (at .sizes)),
+        let u = st .session in
+            let at = st .at in
+            further-by (answerLine u (take long line′)) (w .answer u (at .numbers) (at .keeps) (at .sizes)),
+      )
 
 -- some session, for a line that is answered
 pub standing-kept : (p : Place) (c : Columns) (g : Slices) (block line out : List ℕ) → Standing p c g block line out → Kept (p .numbers) c g
