@@ -151,7 +151,7 @@ fn answer_end(
 }
 
 // One turn: a block is read where the last one is taken. Long for its parameters, one a line.
-fn turn(
+fn take_turn(
     p: Place,
     size: usize,
     block: &mut [u8],
@@ -258,7 +258,7 @@ fn serve(
     let mut turns = 18446744073709551615u64;
     while 0 < turns {
         turns -= 1;
-        let next = turn(
+        let next = take_turn(
             place,
             size,
             block,
