@@ -1,8 +1,10 @@
-//! vectors replay FILE [COUNT] [SEED] | pairs DIR [COUNT] [SEED]
+//! vectors replay FILE [COUNT] [SEED] | pairs DIR [COUNT] [SEED] | gate FILE [COUNT] [SEED] | memory FILE [SHOTS] [SEED]
 //!
 //! Inputs of program `bench` with the outputs that it must write, the answers coming from the original. `replay` writes one text: for each case
 //! a line `= NUMBER NAME`, its input, a line `-` (`-.` if the input's last line has no line feed), its output; a last line `=`. `pairs`
-//! writes DIR/NUMBER.in and DIR/NUMBER.out.
+//! writes DIR/NUMBER.in and DIR/NUMBER.out. `gate` writes the list that program `replay` runs: the same inputs, and document 01's example with each
+//! byte changed and cut at each length; for each case the lengths of its input and of its output, eight hexadecimal digits each, and a line feed,
+//! then both. `memory` writes FILE.in and FILE.out: a memory experiment of a rotated surface code with d = 5.
 
 use differential::frames;
 use differential::inputs::*;
@@ -267,6 +269,26 @@ fn vectors(count: usize, seed: u64) -> Vec<Vector> {
     out
 }
 
+/// Document 01's example with each byte changed, and cut at each length.
+fn broken() -> Vec<Vector> {
+    let good = shots(&example(), &[(2, 1)]);
+    let changed = (0..good.len()).map(|at| {
+        let mut bytes = good.clone().into_bytes();
+        bytes[at] ^= 1;
+        vector(&format!("byte {at} changed"), String::from_utf8(bytes).unwrap())
+    });
+    let cut = (0..good.len()).map(|length| vector(&format!("cut at {length}"), &good[..length]));
+    changed.chain(cut).collect()
+}
+
+/// Shots of a surface code's memory experiment.
+fn memory(count: usize, seed: u64) -> Vector {
+    let rng = &mut Rng(case_seed(seed, 0));
+    let model = surface(5, 0.01, HYPERS[0]);
+    let (rows, truth) = sample(&model, count, rng);
+    vector("memory", frames::write(&model, &rows, &truth))
+}
+
 /// The code that ends an output, 0 for a rate.
 fn last_code(output: &str) -> usize {
     match output.lines().last().and_then(|l| l.strip_prefix("ff")) {
@@ -284,13 +306,29 @@ fn replay(all: &[(Vector, String)]) -> String {
     text + "=\n"
 }
 
+fn gate(all: &[(Vector, String)]) -> String {
+    let mut text = String::new();
+    for (vector, output) in all {
+        write!(text, "{:08x}{:08x}\n{}{output}", vector.input.len(), output.len(), vector.input).unwrap();
+    }
+    text
+}
+
 fn main() {
     let args: Vec<String> = std::env::args().skip(1).collect();
-    let usage = "vectors replay FILE [COUNT] [SEED] | pairs DIR [COUNT] [SEED]";
+    let usage = "vectors replay FILE [COUNT] [SEED] | pairs DIR [COUNT] [SEED] | gate FILE [COUNT] [SEED] | memory FILE [SHOTS] [SEED]";
     let (form, path) = (args.first().expect(usage), args.get(1).expect(usage));
     let number = |at: usize, default: u64| args.get(at).map_or(default, |x| x.parse().expect(usage));
+    if form == "memory" {
+        let made = memory(number(2, 300) as usize, number(3, 1));
+        std::fs::write(format!("{path}.out"), frames::answer(made.input.as_bytes())).unwrap();
+        std::fs::write(format!("{path}.in"), made.input).unwrap();
+        return;
+    }
+    let more = if form == "gate" { broken() } else { vec![] };
     let all: Vec<(Vector, String)> = vectors(number(2, 500) as usize, number(3, 1))
         .into_iter()
+        .chain(more)
         .map(|v| {
             let output = frames::answer(v.input.as_bytes());
             (v, output)
@@ -305,6 +343,7 @@ fn main() {
                 std::fs::write(format!("{path}/{number:04}.out"), output).unwrap();
             }
         }
+        "gate" => std::fs::write(path, gate(&all)).unwrap(),
         _ => panic!("{usage}"),
     }
     let mut codes = [0; 14];

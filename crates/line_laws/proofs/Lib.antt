@@ -1,0 +1,4 @@
+pub mod Long
+pub mod Words
+pub mod Cut
+pub mod Proved

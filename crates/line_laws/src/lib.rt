@@ -1,0 +1,1 @@
+// Laws of lines alone; no code.

@@ -1,0 +1,148 @@
+-- 04: the graph of the model.
+use Prim.Native.Nat.{ℕ, _*_, _≤_}
+use native.Mathlib.Omega.{arith}
+use mathlib.Core.Path.{_≡_, refl, sym, ap, _∙_}
+use mathlib.Core.List.{List, [], map}
+use lib.ListN.{length, length-map}
+use lib.Ieee.{Float}
+use Rattle.codes.specs.declared.Refusal.{Refusal}
+use Rattle.bits.specs.Rows.{words}
+use Rattle.dem.specs.Tables.{written}
+use Rattle.graph.specs.declared.Compiled.{Compiled}
+use Rattle.graph.specs.declared.Compiled.the-variants as compiled
+use Rattle.graph.specs.Compile.{Edge, Edges, into, refused, obsRow, graphBy}
+use Rattle.graph.specs.Tables.{Slices, flat}
+use Rattle.graph.specs.Outcome.{answerOf, tableLeft}
+use Rattle.frames.specs.declared.State.{State}
+use Rattle.frames.specs.Input.{Input, modelRead}
+use Rattle.frames.specs.Counts.{countsOf}
+use Rattle.frames.proofs.FrameKinds.{held-of}
+use Rattle.reader.specs.Columns.{Columns, columns, Holds}
+use Rattle.model_graph.specs.Graph.{graphRead}
+use Rattle.model_graph.specs.Answers.{GraphRead, GraphBy}
+use Rattle.last_line.specs.Last.{refusalText}
+use Rattle.session.specs.declared.Numbers.{Numbers}
+use Rattle.session.specs.declared.Told.{Told}
+use Rattle.session.specs.declared.Told.the-variants as told
+use Rattle.session.specs.Output.{Session, Answer, atModel, compiled as compiledBy}
+use Rattle.session.specs.Kept.{numbersOf, Sizes, GraphAt, Keeps, toldOf, textOf, Left, Tells, Reads, ReadSome, AnswersModel, ModelBy, ModelSome}
+use Rattle.session.proofs.Fronts.{again, written-fits, flat-long}
+
+abbrev edgesRead : Input → Edges
+edgesRead t = graphRead (t .detectors) (t .observables) (modelRead (t .mechanisms))
+
+no-edges : {A : Type 0} {k : ℕ} {x : Refusal} → compiled.Edges k ≡ compiled.Refused x → A
+no-edges e = let z : _≡_ {A = ℕ} 0 1 = cc in absurd (omega arith)
+
+module _ (s : Session) (t : Input) (c : Columns) (g : Slices) (r : Reads s t 4 (numbersOf s) (countsOf t) c g) where
+  holds : Holds t (countsOf t) c
+  holds = record { counts = refl; within = r .within; tables = r .tables }
+
+  module _ (a : Compiled) (left : Slices) (b : GraphRead (countsOf t) c g a left) where
+    answer-is : a ≡ answerOf (edgesRead t)
+    answer-is = b .answer t holds (r .sizes .sized) (r .sizes .wide)
+
+    module _ (k : ℕ) (e : a ≡ compiled.Edges k) (same : length (left .edge-u) ≡ length (g .edge-u)) where
+      few-by : (x : Edges) → edgesRead t ≡ x → k ≤ 1024
+      unfolding answerOf tableLeft graphBy
+      few-by (refused y) q = no-edges (sym e ∙ answer-is ∙ ap answerOf q)
+      few-by (into es) q =
+          let n : k ≡ length es = let z : compiled.Edges k ≡ compiled.Edges (length es) = sym e ∙ answer-is ∙ ap answerOf q in cc in
+          let fits = written-fits (map (λ e. e .u) es) (g .edge-u) (left .edge-u) (b .tables t es holds (r .sizes .sized) (r .sizes .wide) q .0) same in
+          omega (arith, n, fits, length-map es (λ e. e .u), r .sizes .few)
+
+      pub few : k ≤ 1024
+      few = few-by (edgesRead t) refl
+
+      abbrev numbers : ℕ → Numbers
+      numbers w = record { state = countsOf t; edges = k; words = w; shots = s .shots; failures = s .failures }
+
+      numbers-eq : (w j v : ℕ) → k ≡ j → w ≡ v → _≡_ {A = Numbers} (numbers w) (record { state = countsOf t; edges = j; words = v; shots = s .shots; failures = s .failures })
+      numbers-eq w j v p q = rw (p, q) refl
+
+      on-by : (w : ℕ) (was : List ℕ) → w ≡ k * words (t .observables) → (x : Edges) → edgesRead t ≡ x
+          → Tells (compiledBy s t x) (told.On (numbers w) 0) was was × Left (compiledBy s t x) c left
+      unfolding answerOf tableLeft graphBy
+      on-by w was h (refused y) q = no-edges (sym e ∙ answer-is ∙ ap answerOf q)
+      on-by w was h (into es) q =
+          let n : k ≡ length es = let z : compiled.Edges k ≡ compiled.Edges (length es) = sym e ∙ answer-is ∙ ap answerOf q in cc in
+          let tables = b .tables t es holds (r .sizes .sized) (r .sizes .wide) q in
+          let g′ = graphBy (t .detectors) (t .observables) es in (
+            record {
+              told = ap (λ (m : Numbers). told.On m 0) (numbers-eq w _ _ (n ∙ sym (length-map es (λ e. e .u)))
+                  (h ∙ ap (λ (j : ℕ). j * words (t .observables)) n ∙ sym (flat-long (t .observables) es)));
+              text = refl;
+            },
+            record {
+              within = r .within;
+              tables = r .tables;
+              row = r .row;
+              graph = record {
+                u = again (g′ .edge-u) (g .edge-u) (left .edge-u) (tables .0);
+                v = again (g′ .edge-v) (g .edge-v) (left .edge-v) (tables .1);
+                weight = again (g′ .edge-weight) (g .edge-weight) (left .edge-weight) (tables .2);
+                obs = again (flat (g′ .edge-obs)) (g .edge-obs) (left .edge-obs) (tables .3);
+                others = length-map es _ ∙ sym (length-map es _);
+                weights = length-map es _ ∙ sym (length-map es _);
+              };
+              shots = r .shots;
+              failures = r .failures;
+            },
+          )
+
+    refused-by : (y : Refusal) → a ≡ compiled.Refused y → (x : Edges) → edgesRead t ≡ x → (was : List ℕ) (z : Told) (out : List ℕ) → z ≡ told.Ended (length (refusalText y)) → out ≡ written (refusalText y) was
+        → Tells (compiledBy s t x) z was out × Left (compiledBy s t x) c left
+    unfolding answerOf
+    refused-by y e (into es) q was z out p o = no-edges (sym (ap answerOf q) ∙ sym answer-is ∙ e)
+    refused-by y e (refused u) q was z out p o =
+        let same : y ≡ u = let v : compiled.Refused y ≡ compiled.Refused u = sym e ∙ answer-is ∙ ap answerOf q in cc in
+        (record { told = rw (← same) p; text = rw (← same) o }, tt)
+
+-- ---- the contract
+
+module _ (n : Numbers) (state : State) (bs ds os cs cds cos es : List ℕ) (g : Slices) (a : Compiled) (left : Slices) (b : GraphBy state bs ds os cs cds cos es g a left) where
+  -- the numbers of a session are those of its definition
+  at : (s : Session) (t : Input) (ws ts : List ℕ) → Reads s t 4 n state (columns bs ds os cs cds cos es ws ts) g
+      → Reads s t 4 (numbersOf s) (countsOf t) (columns bs ds os cs cds cos es ws ts) g
+  at s t ws ts r = record {
+    numbers = refl;
+    counts = refl;
+    within = r .within;
+    tables = r .tables;
+    row = r .row;
+    shot = r .shot;
+    graph = r .graph;
+    shots = r .shots;
+    failures = r .failures;
+    sizes = r .sizes;
+  }
+
+  graph-at : (s : Session) (t : Input) (ws ts : List ℕ) → Reads s t 4 n state (columns bs ds os cs cds cos es ws ts) g → GraphRead (countsOf t) (columns bs ds os cs cds cos es ws ts) g a left
+  graph-at s t ws ts r = rw (r .counts) at (b ws ts)
+
+  pub model-few : ModelSome n state bs ds os cs cds cos es g → (k : ℕ) → a ≡ compiled.Edges k → length (left .edge-u) ≡ length (g .edge-u) → (k ≤ 1024) × (state .observables ≤ 128)
+  model-few m k e same =
+      let r = m .read .reads in
+      let s = m .read .session in
+      let t = m .read .input in (
+        few s t (columns bs ds os cs cds cos es (m .row) (m .truth)) g (at s t (m .row) (m .truth) r) a left (graph-at s t (m .row) (m .truth) r) k e same,
+        rw (r .counts) (held-of (countsOf t) (r .within) .observables),
+      )
+
+  pub model-on : (k w : ℕ) (was : List ℕ) → a ≡ compiled.Edges k → length (left .edge-u) ≡ length (g .edge-u) → w ≡ k * words (state .observables)
+      → ModelBy n state bs ds os cs cds cos es g (told.On (record { state = state; edges = k; words = w; shots = n .shots; failures = n .failures }) 0) left was was
+  unfolding atModel
+  model-on k w was e same h ws ts =
+      let both : (s : Session) (t : Input) → Reads s t 4 n state (columns bs ds os cs cds cos es ws ts) g
+      → Tells (atModel s t) (told.On (record { state = state; edges = k; words = w; shots = n .shots; failures = n .failures }) 0) was was × Left (atModel s t) (columns bs ds os cs cds cos es ws ts) left
+      = λ s t r. rw (r .numbers, r .counts) (on-by s t (columns bs ds os cs cds cos es ws ts) g (at s t ws ts r) a left (graph-at s t ws ts r) k e same w was (rw (r .counts) at h) (edgesRead t) refl) in
+      record { answer = λ s t r. both s t r .0; tables = λ s t r. both s t r .1 }
+
+  pub model-refused : (y : Refusal) (was out : List ℕ) (z : Told) → a ≡ compiled.Refused y → (z ≡ told.Ended (length (refusalText y))) × (out ≡ written (refusalText y) was)
+      → ModelBy n state bs ds os cs cds cos es g z left was out
+  unfolding atModel
+  model-refused y was out z e p ws ts =
+      let both : (s : Session) (t : Input) → Reads s t 4 n state (columns bs ds os cs cds cos es ws ts) g
+      → Tells (atModel s t) z was out × Left (atModel s t) (columns bs ds os cs cds cos es ws ts) left
+      = λ s t r. refused-by s t (columns bs ds os cs cds cos es ws ts) g (at s t ws ts r) a left (graph-at s t ws ts r) y e (edgesRead t) refl was z out (p .0) (p .1) in
+      record { answer = λ s t r. both s t r .0; tables = λ s t r. both s t r .1 }
