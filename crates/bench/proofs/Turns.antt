@@ -7,13 +7,10 @@ use mathlib.Core.Bool.{true}
 use mathlib.Core.List.{List, [], _++_}
 use lib.ListN.{length, take, drop, length-append}
 use borrow.Rule.Slice.PartMut.{midOf}
-use Rattle.graph.specs.Tables.{Slices, flat}
-use Rattle.frames.specs.Input.{start, linesOf}
-use Rattle.frames.specs.declared.Stage.{Stage}
-use Rattle.frames.specs.declared.Stage.the-variants.{Nothing, AfterRow}
+use Rattle.graph.specs.Tables.{Slices}
+use Rattle.frames.specs.Input.{linesOf}
 use Rattle.line_laws.specs.Laws.{longest, unended}
 use Rattle.reader.specs.Columns.{Columns}
-use Rattle.reader.proofs.Laws.{laws}
 use Rattle.session.specs.declared.Numbers.{Numbers}
 use Rattle.session.specs.Output.{Session, begin, answers}
 use Rattle.session.specs.Kept.{numbersOf, Sizes, Keeps, Kept}
@@ -21,25 +18,10 @@ use Rattle.stream.specs.declared.Place.{Place}
 use Rattle.stream.specs.declared.Fed.the-variants as fed
 use Rattle.stream.specs.Fed.{startPlace, Placed, At, Standing, Feeds}
 use Rattle.input_end.specs.Finish.{Finishes}
+use Rattle.whole_input.proofs.Outputs.{begin-keeps}
 use Rattle.bench.specs.Ready.{Ready, Long}
 
 -- ---- before the first block
-
-no-row : {A : Type 0} → Nothing ≡ AfterRow → A
-no-row e = let z : _≡_ {A = ℕ} 0 1 = cc in absurd (omega arith)
-
-begin-keeps : (c : Columns) (g : Slices) → Keeps begin c g
-unfolding begin start flat
-begin-keeps c g =
-    let h = laws .first c in
-    record {
-      within = h .within;
-      tables = h .tables;
-      row = λ e. no-row e;
-      graph = record { u = refl; v = refl; weight = refl; obs = refl; others = refl; weights = refl };
-      shots = omega arith;
-      failures = omega arith;
-    }
 
 pub start-ready : (p : Place) → p ≡ startPlace → (c : Columns) (g : Slices) (block line out : List ℕ) → Long c g line out → Ready p 0 c g block line out
 unfolding unended
