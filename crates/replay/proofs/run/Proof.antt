@@ -1,95 +1,80 @@
--- `replay::run` meets its contract.
+-- `replay::run`: counts that stay below the most.
+use Prim.Native.Nat.{_-_, _≤_}
+use mathlib.Core.Path.{_≡_, refl, _∙_}
+use native.Mathlib.Omega.{arith}
+use lib.ListN.{length}
+use borrow.Author.Needs.{needs}
 use Rattle.replay.proofs.run.Statement.{statement}
 use Rattle.replay.proofs.run.Tie as tie
-use Rattle.replay.proofs.run.Reads as reads
-use Rattle.replay.proofs.run.Lts as lts
-use Rattle.replay.proofs.next_case.Reads as next-case-reads
-use Rattle.replay.proofs.number.Reads as number-reads
 
 abbrev Inv-loop : tie.InvT-loop
-Inv-loop head₀ input₀ expected₀ cases₀ wrong₀ t7 t8 head input expected cases wrong = ?
+Inv-loop head₀ input₀ expected₀ cases₀ wrong₀ t7 t8 head input expected cases wrong = (length head ≡ length head₀) × (length input ≡ length input₀) × (length expected ≡ length expected₀)
 
 abbrev μ-loop : tie.MeasureT-loop
-μ-loop head₀ input₀ expected₀ cases₀ wrong₀ t7 t8 head input expected cases wrong = ?
+μ-loop head₀ input₀ expected₀ cases₀ wrong₀ t7 t8 head input expected cases wrong = 100000 - cases
 
--- src/main.rt:151:5
 loop-holds : tie.Need-loop-holds Inv-loop μ-loop
-loop-holds c = ?
+loop-holds c = (refl, refl, refl)
 
--- src/main.rt:152:13
 next-case-requires : tie.Need-next-case-requires Inv-loop μ-loop
-next-case-requires c κs = ?
+next-case-requires c κs = search needs
 
--- src/main.rt:154:27
 enum-told : tie.Need-enum-told Inv-loop μ-loop
-enum-told c = ?
+enum-told c = search needs
 
--- src/main.rt:154:27
 same-length : tie.Need-same-length Inv-loop μ-loop
-same-length c = ?
+same-length c = c .before .before .before .before .before .before .before .before .next-case .kept .0 ∙ c .before .before .before .before .before .before .before .before .before .before .before .before .before .loop .inv .0
 
--- src/main.rt:154:27
 same-length-2 : tie.Need-same-length-2 Inv-loop μ-loop
-same-length-2 c = ?
+same-length-2 c = c .before .before .before .before .before .before .before .before .next-case .kept .1 .0 ∙ c .before .before .before .before .before .before .before .before .before .before .before .before .before .loop .inv .1
 
--- src/main.rt:154:27
 same-length-3 : tie.Need-same-length-3 Inv-loop μ-loop
-same-length-3 c = ?
+same-length-3 c = c .before .before .before .before .before .before .before .before .next-case .kept .1 .1 .0 ∙ c .before .before .before .before .before .before .before .before .before .before .before .before .before .loop .inv .2
 
--- src/main.rt:154:27
 returns : tie.Need-returns Inv-loop μ-loop
-returns c = ?
+returns c = tt
 
 enum-told-2 : tie.Need-enum-told-2 Inv-loop μ-loop
-enum-told-2 c = ?
+enum-told-2 c = search needs
 
--- src/main.rt:157:24
 enum-told-3 : tie.Need-enum-told-3 Inv-loop μ-loop
-enum-told-3 c = ?
+enum-told-3 c = search needs
 
--- src/main.rt:157:24
 slice-aggregate-number : tie.Need-slice-aggregate-number Inv-loop μ-loop
-slice-aggregate-number c = ?
+slice-aggregate-number c = search needs
 
--- src/main.rt:157:41
 slice-aggregate-number-2 : tie.Need-slice-aggregate-number-2 Inv-loop μ-loop
-slice-aggregate-number-2 c = ?
+slice-aggregate-number-2 c = search needs
 
--- src/main.rt:157:17
 number-requires : tie.Need-number-requires Inv-loop μ-loop
-number-requires c κs = ?
+number-requires c κs = search needs
 
--- src/main.rt:159:21
 add-wrong : tie.Need-add-wrong Inv-loop μ-loop
-add-wrong c = ?
+add-wrong c = search needs
 
--- src/main.rt:163:9
 add-cases : tie.Need-add-cases Inv-loop μ-loop
-add-cases c = ?
+add-cases c = omega (arith, c .before .before .before .before .before .before .before .before .before .before .before .loop-test .taken)
 
--- src/main.rt:151:5
 loop-less : tie.Need-loop-less Inv-loop μ-loop
-loop-less c = ?
+loop-less c = omega (arith, c .before .before .before .before .before .before .before .before .before .before .before .loop-test .taken)
 
--- src/main.rt:151:5
 loop-again : tie.Need-loop-again Inv-loop μ-loop
-loop-again c = ?
+loop-again c =
+    let next-case = c .before .before .before .before .before .before .before .next-case in
+    let loop = c .before .before .before .before .before .before .before .before .before .before .before .before .loop in
+    (next-case .kept .0 ∙ loop .inv .0, next-case .kept .1 .0 ∙ loop .inv .1, next-case .kept .1 .1 .0 ∙ loop .inv .2)
 
--- src/main.rt:148:1
 same-length-4 : tie.Need-same-length-4 Inv-loop μ-loop
-same-length-4 c = ?
+same-length-4 c = c .before .loop .inv .0
 
--- src/main.rt:148:1
 same-length-5 : tie.Need-same-length-5 Inv-loop μ-loop
-same-length-5 c = ?
+same-length-5 c = c .before .loop .inv .1
 
--- src/main.rt:148:1
 same-length-6 : tie.Need-same-length-6 Inv-loop μ-loop
-same-length-6 c = ?
+same-length-6 c = c .before .loop .inv .2
 
--- src/main.rt:148:1
 returns-2 : tie.Need-returns-2 Inv-loop μ-loop
-returns-2 c = ?
+returns-2 c = tt
 
 pub run-spec : {M : Type 1} → statement M
 run-spec =
