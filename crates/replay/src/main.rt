@@ -4,6 +4,7 @@ use libc::STDIN_FILENO;
 use libc::STDOUT_FILENO;
 use whole_input::Output;
 ghost use mathlib.Core.Path.{_≡_};
+ghost use Prim.Native.Nat.{_≤_};
 ghost use lib.ListN.{length};
 
 // More cases than a list has.
@@ -60,7 +61,9 @@ fn take(n: usize, to: &mut [u8]) -> bool {
 }
 
 // The length at a digit of a head.
-fn size_at(head: &[u8], at: usize) -> usize {
+fn size_at(head: &[u8], at: usize) -> usize
+    requires { ⌜ at ≤ 4 ⌝ }
+{
     if hex::byte_count(head) < at + 4 {
         return 0;
     }
