@@ -2,8 +2,8 @@
 //!
 //! Inputs of program `bench` with the outputs that it must write, the answers coming from the original. `replay` writes one text: for each case
 //! a line `= NUMBER NAME`, its input, a line `-` (`-.` if the input's last line has no line feed), its output; a last line `=`. `pairs`
-//! writes DIR/NUMBER.in and DIR/NUMBER.out. `gate` writes the list that program `replay` runs: the same inputs, and document 01's example with each
-//! byte changed and cut at each length; for each case the lengths of its input and of its output, eight hexadecimal digits each, and a line feed,
+//! writes DIR/NUMBER.in and DIR/NUMBER.out. `gate` writes the list that program `replay` runs: the same inputs, document 01's example with each
+//! byte changed and cut at each length, and the memory experiment of examples/; for each case the lengths of its input and of its output, eight hexadecimal digits each, and a line feed,
 //! then both. `memory` writes FILE.in and FILE.out: a memory experiment of a rotated surface code with d = 5.
 
 use differential::frames;
@@ -325,7 +325,7 @@ fn main() {
         std::fs::write(format!("{path}.in"), made.input).unwrap();
         return;
     }
-    let more = if form == "gate" { broken() } else { vec![] };
+    let more = if form == "gate" { broken().into_iter().chain([memory(300, 1)]).collect() } else { vec![] };
     let all: Vec<(Vector, String)> = vectors(number(2, 500) as usize, number(3, 1))
         .into_iter()
         .chain(more)
