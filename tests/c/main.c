@@ -165,14 +165,28 @@ static struct pavrenni_rate rate(const struct graph *graph, const struct asked *
     return answer;
 }
 
-static struct pavrenni_mark mark(const struct graph *graph, uint64_t shot, const uint32_t *list, size_t length, uint64_t *row)
+/* a shot of shot_len words by its width, a row of row_len words, and how many entries the last scratch slice lacks */
+struct judged {
+    uint64_t shot;
+    size_t shot_len, width, row_len, lacks;
+};
+
+static struct pavrenni_mark judge(const struct graph *graph, const struct judged *j, const uint32_t *list, size_t length, uint64_t *row)
 {
     struct mark_scratch s;
     s.lengths = pavrenni_mark_lengths_for(graph->detectors, graph->edges);
     MARK_SLICES(TAKE)
-    struct pavrenni_mark answer = pavrenni_mark(GRAPH(graph), &shot, 1, 2, list, length, row, 1 MARK_SLICES(LENT));
+    s.lengths.wrong -= j->lacks;
+    struct pavrenni_mark answer =
+        pavrenni_mark(GRAPH(graph), &j->shot, j->shot_len, j->width, list, length, row, j->row_len MARK_SLICES(LENT));
     MARK_SLICES(GIVE_BACK)
     return answer;
+}
+
+static struct pavrenni_mark mark(const struct graph *graph, uint64_t shot, const uint32_t *list, size_t length, uint64_t *row)
+{
+    const struct judged j = {.shot = shot, .shot_len = 1, .width = 2, .row_len = 1};
+    return judge(graph, &j, list, length, row);
 }
 
 /* ---- tests */
@@ -193,6 +207,47 @@ static bool is_zero(const void *at, size_t bytes)
     return true;
 }
 
+/* every table that decomposition was to fill is zero */
+static bool no_model(const struct model *m)
+{
+    return is_zero(m->probability, sizeof m->probability) && is_zero(m->detector_counts, sizeof m->detector_counts)
+        && is_zero(m->observable_counts, sizeof m->observable_counts) && is_zero(m->component_counts, sizeof m->component_counts)
+        && is_zero(m->component_detectors, sizeof m->component_detectors)
+        && is_zero(m->component_observables, sizeof m->component_observables) && is_zero(m->entries, sizeof m->entries);
+}
+
+static bool no_graph(const struct graph *g)
+{
+    return is_zero(g->edge_u, sizeof g->edge_u) && is_zero(g->edge_v, sizeof g->edge_v)
+        && is_zero(g->edge_weight, sizeof g->edge_weight) && is_zero(g->edge_obs, sizeof g->edge_obs);
+}
+
+#define DECOMPOSE_REFUSED(change, code_, first_) \
+    do { \
+        struct model m = example, left; \
+        change; \
+        struct pavrenni_model r = decompose(&m, &left); \
+        CHECK(r.code == (code_) && r.first == (first_) && r.second == 0 && r.mechanisms == 0 && no_model(&left)); \
+    } while (0)
+
+#define COMPILE_REFUSED(change, code_, first_) \
+    do { \
+        struct model m = example; \
+        struct graph left; \
+        change; \
+        struct pavrenni_graph r = compile(&m, &left); \
+        CHECK(r.code == (code_) && r.first == (first_) && r.second == 0 && r.edges == 0 && no_graph(&left)); \
+    } while (0)
+
+/* mechanism 1 flips detectors 0, 1 and 2 */
+static void make_triple(struct model *m)
+{
+    m->detectors = 3;
+    m->detector_counts[1] = 3;
+    m->entries[4] = 2;
+    m->entry_count = 5;
+}
+
 static void models(void)
 {
     struct model out;
@@ -201,17 +256,14 @@ static void models(void)
     CHECK(memcmp(out.probability, example.probability, 2 * sizeof(double)) == 0);
     CHECK(memcmp(out.entries, example.entries, 4 * sizeof(uint32_t)) == 0);
 
-    struct model certain = example;
-    certain.probability[1] = 1.0;
-    answer = decompose(&certain, &out);
-    CHECK(answer.code == PAVRENNI_PROBABILITY && answer.first == 1 && answer.second == 0 && answer.mechanisms == 0);
-    CHECK(is_zero(out.probability, sizeof out.probability) && is_zero(out.entries, sizeof out.entries));
-    CHECK(is_zero(out.detector_counts, sizeof out.detector_counts) && is_zero(out.component_counts, sizeof out.component_counts));
-
-    /* a table that is shorter than the counts say */
-    struct model shorter = example;
-    shorter.entry_count = 3;
-    CHECK(decompose(&shorter, &out).code == PAVRENNI_SHORT);
+    DECOMPOSE_REFUSED(m.detectors = 4097, PAVRENNI_LIMIT, 0);
+    DECOMPOSE_REFUSED(m.observables = 129, PAVRENNI_LIMIT, 0);
+    DECOMPOSE_REFUSED(m.entry_count = 3, PAVRENNI_SHORT, 0);
+    DECOMPOSE_REFUSED(m.entry_count = 0, PAVRENNI_SHORT, 0);
+    DECOMPOSE_REFUSED(m.probability[1] = 1.0, PAVRENNI_PROBABILITY, 1);
+    DECOMPOSE_REFUSED(m.entries[3] = 2, PAVRENNI_INDEX, 1);
+    /* detector 2 is in no other mechanism */
+    DECOMPOSE_REFUSED(make_triple(&m), PAVRENNI_NO_COVER, 1);
 }
 
 static void graphs(struct graph *graph)
@@ -224,17 +276,11 @@ static void graphs(struct graph *graph)
     memcpy(&weight, &graph->edge_weight[0], sizeof weight);
     CHECK(weight == UINT64_C(0x3ff193ea7aad030a));
 
-    struct graph out;
-    struct model triple = example;
-    triple.detectors = 3;
-    triple.detector_counts[1] = 3;
-    triple.entries[4] = 2;
-    triple.entry_count = 5;
-    answer = compile(&triple, &out);
-    CHECK(answer.code == PAVRENNI_NOT_GRAPHLIKE && answer.first == 1 && answer.edges == 0);
-    CHECK(is_zero(out.edge_u, sizeof out.edge_u) && is_zero(out.edge_obs, sizeof out.edge_obs));
-    triple.detectors = 4097;
-    CHECK(compile(&triple, &out).code == PAVRENNI_LIMIT);
+    COMPILE_REFUSED(m.detectors = 4097, PAVRENNI_LIMIT, 0);
+    COMPILE_REFUSED(m.entry_count = 3, PAVRENNI_SHORT, 0);
+    COMPILE_REFUSED(m.probability[1] = -0.5, PAVRENNI_PROBABILITY, 1);
+    COMPILE_REFUSED(m.entries[3] = 0, PAVRENNI_INDEX, 1);
+    COMPILE_REFUSED(make_triple(&m), PAVRENNI_NOT_GRAPHLIKE, 1);
 }
 
 static void shots(const struct graph *graph)
@@ -364,9 +410,28 @@ static void batches(const struct graph *graph)
     stuck();
 }
 
+#define MARK_REFUSED(change, code_, first_) \
+    do { \
+        struct judged j = {.shot = 2, .shot_len = 1, .width = 2, .row_len = 1}; \
+        struct graph g = *graph; \
+        uint64_t left = UNTOUCHED; \
+        change; \
+        struct pavrenni_mark r = judge(&g, &j, list, 2, &left); \
+        CHECK(r.code == (code_) && r.first == (first_) && r.second == 0 && r.passed == 0 && left == UNTOUCHED); \
+    } while (0)
+
 static void marks(const struct graph *graph)
 {
     const uint32_t list[3] = {0, 1, 2};
+    MARK_REFUSED(g.observables = 129, PAVRENNI_LIMIT, 0);
+    MARK_REFUSED(j.row_len = 0, PAVRENNI_SHORT, 0);
+    MARK_REFUSED(j.lacks = 1, PAVRENNI_SHORT, 0);
+    MARK_REFUSED(g.edge_v[1] = 0, PAVRENNI_INDEX, 1);
+    MARK_REFUSED(g.edge_weight[1] = 1025.0, PAVRENNI_PROBABILITY, 1);
+    MARK_REFUSED(j.shot_len = 0, PAVRENNI_LENGTH, 0);
+    MARK_REFUSED(j.width = SIZE_MAX, PAVRENNI_LENGTH, 0);
+    MARK_REFUSED(j.shot = 4, PAVRENNI_PADDING, 0);
+    MARK_REFUSED(j.width = 3, PAVRENNI_WIDTH, 0);
     const uint32_t repeated[2] = {0, 0};
     uint64_t row = UNTOUCHED;
     struct pavrenni_mark answer = mark(graph, 2, list, 1, &row);
