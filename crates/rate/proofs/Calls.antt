@@ -1,14 +1,12 @@
 -- What the call answers and leaves, by its checks, by the shots decoded and by the failures counted.
-use Prim.Native.Nat.{ℕ, _*_, _<_}
+use Prim.Native.Nat.{ℕ, _<_}
 use native.Mathlib.Omega.{arith}
 use mathlib.Core.Path.{_≡_, refl, sym, ap, _∙_, subst}
 use mathlib.Core.List.{List}
-use mathlib.Core.Bool.{Bool, true, _&&_}
-use lib.Dec.{leb}
+use mathlib.Core.Bool.{Bool, true}
 use lib.Ieee.{Float}
 use lib.ListN.{length}
 use Rattle.lists.specs.Lists.{below}
-use Rattle.lists.proofs.Truth.{and-right}
 use Rattle.lists.proofs.Members.{member-below}
 use Rattle.lists.proofs.Filters.{filter-in}
 use Rattle.bits.specs.Rows.{words, isClear}
@@ -20,14 +18,11 @@ use Rattle.packed.specs.Packed.{rowAt}
 use Rattle.packed.specs.Laws.{Sound}
 use Rattle.packed.proofs.Laws.{accepted-sound}
 use Rattle.steps.specs.Call.{graphOf}
-use Rattle.scratch.specs.Scratch.{scratchLong}
-use Rattle.scratch.proofs.Laws.{scratch-long}
-use Rattle.tabled.specs.Tabled.{Room}
 use Rattle.batch_shot.specs.Row.{shotAt, rowFor}
 use Rattle.batch_rows.specs.Rows.{checkShotsOf, rowsOf}
 use Rattle.batch_rows.proofs.Laws.{row-alone}
 use Rattle.batch.specs.Batch as batch
-use Rattle.batch.specs.Batch.{Handed, ownLong}
+use Rattle.batch.specs.Batch.{ownLong}
 use Rattle.batch.proofs.Calls.{accepts, rows-long}
 use Rattle.failures.specs.declared.ErrorRate.{ErrorRate}
 use Rattle.failures.specs.declared.ErrorRate.the-variants as answer
@@ -36,16 +31,6 @@ use Rattle.rate_checks.specs.Checks.{checkRate}
 use Rattle.rate_checks.proofs.Laws.{Passed, rate-accepted}
 use Rattle.rate.specs.Rate.{Compared, graphOfCall, checks, shape, failed, failures, Rates}
 use Rattle.rate.proofs.Clear.{left-clear}
-
--- slices that are long enough have room for the edges at each detector
-pub room : (h : Handed) {long : Bool} → long ≡ ownLong h → long ≡ true → Room (h .graph .detectors) (h .graph .edges) (h .scratch .«adj_offsets») (h .scratch .«adj_edge») (h .scratch .«adj_far»)
-unfolding ownLong
-room h p q =
-    let rows = leb (h .shots * words (h .graph .observables)) (length (h .out)) in
-    let lists = leb (h .graph .detectors) (h .list) in
-    let slices = scratchLong (h .graph .detectors) (h .graph .edges) (h .scratch) in
-    let k = scratch-long (h .graph .detectors) (h .graph .edges) (h .scratch) (and-right lists slices (and-right rows (lists && slices) (sym p ∙ q))) in
-    record { offs = k .adj-offsets; adjs = k .adj-edge; fars = k .adj-far }
 
 -- where decoding refuses, no rate is looked at
 same-answer : (decoded then : Checked) {x y : Float} → (decoded ≡ Accepted → x ≡ y) → answerOf (andThen decoded then) x ≡ answerOf (andThen decoded then) y

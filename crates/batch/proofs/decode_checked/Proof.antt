@@ -1,31 +1,32 @@
 -- `batch::decode_checked` meets its contract: a refusal leaves the output as it was, and an accepted call decodes.
 use mathlib.Core.Path.{refl, sym, _∙_}
 use lib.ListN.{length}
-use Rattle.codes.specs.declared.Checked.the-variants.{Accepted, Refused}
 use Rattle.scratch.specs.Scratch.{lengthsOf}
 use Rattle.calls.specs.Call.{lentOf}
+use Rattle.codes.specs.declared.Checked.the-variants.{Accepted, Refused}
+use Rattle.tabled.proofs.Laws.{wide}
 use Rattle.decoder.proofs.Laws.{places}
 use Rattle.batch.specs.Batch.{handed}
-use Rattle.batch.proofs.Calls.{own-is, checks-by, refused, accepts, scratch, given-rows, wide, adj-accepted, decoded}
+use Rattle.batch.proofs.Calls.{room, checks-by, refused, passed, accepts, scratch, given-rows, decoded}
 use borrow.Author.Needs.{needs}
 use Rattle.batch.proofs.decode_checked.Statement.{statement}
 use Rattle.batch.proofs.decode_checked.Tie as tie
 
-own-long-requires : tie.Need-own-long-requires
-own-long-requires c κs = search needs
-
-check-call-requires : tie.Need-check-call-requires
-check-call-requires c κs = search needs
+check-batch-requires : tie.Need-check-batch-requires
+check-batch-requires c κs =
+    let args = c .before .before .before .before .before .before .before .before .before .before .before .before .before .before .before .before .before .before .before .before .before .before .before .before .before .before .before .before .before .before .args in
+    let pre = c .before .before .before .before .before .before .before .before .before .before .before .before .before .before .before .before .before .before .before .before .before .before .before .before .before .before .before .before .before .before .pre in
+    let h = (handed (lentOf (args .detectors) (args .observables) (args .edges) (args .edge-u .now) (args .edge-v .now) (args .edge-weight .now) (args .edge-obs .now)) (args .rows .now) (args .shots) (args .width) (args .out .now) (length (args .list .now)) (lengthsOf (length (args .adj-offsets .now)) (length (args .adj-edge .now)) (length (args .adj-far .now)) (length (args .defects .now)) (length (args .seen .now)) (length (args .active .now)) (length (args .front .now)) (length (args .touched .now)) (length (args .cnt .now)) (length (args .fresh .now)) (length (args .order-edge .now)) (length (args .order-parent .now)) (length (args .lit .now)) (length (args .growth .now)) (length (args .sat .now)) (length (args .known .now)) (length (args .parent .now)) (length (args .odd .now)) (length (args .boundary-edge .now)) (length (args .hot .now)) (length (args .free .now)) (length (args .live .now)) (length (args .bits .now)))) in
+    λ a t l. pre .0 .checked (record { counts = a; tables = t; room = room h (pre .1) l })
 
 enum-known-checked : tie.Need-enum-known-checked
 enum-known-checked c = search needs
 
 returns : tie.Need-returns
 returns c =
-    let args = c .before .before .before .before .before .before .before .before .before .before .before .before .before .before .before .before .before .before .before .before .before .before .before .before .before .before .before .before .before .before .before .before .before .before .before .args in
-    let own-long = c .before .before .before .before .own-long in
+    let args = c .before .before .before .before .before .before .before .before .before .before .before .before .before .before .before .before .before .before .before .before .before .before .before .before .before .before .before .before .before .before .before .before .before .before .args in
     let h = (handed (lentOf (args .detectors) (args .observables) (args .edges) (args .edge-u .now) (args .edge-v .now) (args .edge-weight .now) (args .edge-obs .now)) (args .rows .now) (args .shots) (args .width) (args .out .now) (length (args .list .now)) (lengthsOf (length (args .adj-offsets .now)) (length (args .adj-edge .now)) (length (args .adj-far .now)) (length (args .defects .now)) (length (args .seen .now)) (length (args .active .now)) (length (args .front .now)) (length (args .touched .now)) (length (args .cnt .now)) (length (args .fresh .now)) (length (args .order-edge .now)) (length (args .order-parent .now)) (length (args .lit .now)) (length (args .growth .now)) (length (args .sat .now)) (length (args .known .now)) (length (args .parent .now)) (length (args .odd .now)) (length (args .boundary-edge .now)) (length (args .hot .now)) (length (args .free .now)) (length (args .live .now)) (length (args .bits .now)))) in
-    let no = checks-by h (own-long .result) (Refused (c .before .checked .given .0 .0)) (own-is h (own-long .ensures) (c .before .before .before .before .before .before .before .before .before .before .before .before .before .before .before .before .before .before .before .before .before .before .before .before .before .before .before .before .before .before .before .before .before .before .before .pre .1)) (sym (c .before .checked .given .1) ∙ c .before .before .before .check-call .ensures) in
+    let no = checks-by h (args .long) (Refused (c .before .checked .given .0 .0)) (c .before .before .before .before .before .before .before .before .before .before .before .before .before .before .before .before .before .before .before .before .before .before .before .before .before .before .before .before .before .before .before .before .before .before .pre .1) (sym (c .before .checked .given .1) ∙ c .before .before .before .check-batch .ensures) in
     refused h no
 
 enum-told : tie.Need-enum-told
@@ -33,14 +34,14 @@ enum-told c = search needs
 
 decode-parts-requires : tie.Need-decode-parts-requires
 decode-parts-requires c κs =
-    let args = c .before .before .before .before .before .before .before .before .before .before .before .before .before .before .before .before .before .before .before .before .before .before .before .before .before .before .before .before .before .before .before .before .before .before .before .before .before .before .before .before .before .before .before .before .before .before .before .before .before .before .before .before .before .before .before .before .args in
-    let own-long = c .before .before .before .before .before .before .before .before .before .before .before .before .before .before .before .before .before .before .before .before .before .before .before .before .before .own-long in
-    let pre = c .before .before .before .before .before .before .before .before .before .before .before .before .before .before .before .before .before .before .before .before .before .before .before .before .before .before .before .before .before .before .before .before .before .before .before .before .before .before .before .before .before .before .before .before .before .before .before .before .before .before .before .before .before .before .before .before .pre in
+    let args = c .before .before .before .before .before .before .before .before .before .before .before .before .before .before .before .before .before .before .before .before .before .before .before .before .before .before .before .before .before .before .before .before .before .before .before .before .before .before .before .before .before .before .before .before .before .before .before .before .before .before .before .before .before .before .before .args in
+    let pre = c .before .before .before .before .before .before .before .before .before .before .before .before .before .before .before .before .before .before .before .before .before .before .before .before .before .before .before .before .before .before .before .before .before .before .before .before .before .before .before .before .before .before .before .before .before .before .before .before .before .before .before .before .before .before .before .pre in
     let h = (handed (lentOf (args .detectors) (args .observables) (args .edges) (args .edge-u .now) (args .edge-v .now) (args .edge-weight .now) (args .edge-obs .now)) (args .rows .now) (args .shots) (args .width) (args .out .now) (length (args .list .now)) (lengthsOf (length (args .adj-offsets .now)) (length (args .adj-edge .now)) (length (args .adj-far .now)) (length (args .defects .now)) (length (args .seen .now)) (length (args .active .now)) (length (args .front .now)) (length (args .touched .now)) (length (args .cnt .now)) (length (args .fresh .now)) (length (args .order-edge .now)) (length (args .order-parent .now)) (length (args .lit .now)) (length (args .growth .now)) (length (args .sat .now)) (length (args .known .now)) (length (args .parent .now)) (length (args .odd .now)) (length (args .boundary-edge .now)) (length (args .hot .now)) (length (args .free .now)) (length (args .live .now)) (length (args .bits .now)))) in
-    let yes = checks-by h (own-long .result) Accepted (own-is h (own-long .ensures) (pre .1)) (sym (c .before .before .before .before .before .before .before .before .before .before .before .before .before .before .before .before .before .before .before .before .before .before .enum-told .given .1) ∙ c .before .before .before .before .before .before .before .before .before .before .before .before .before .before .before .before .before .before .before .before .before .before .before .before .check-call .ensures) in
+    let yes = checks-by h (args .long) Accepted (pre .1) (sym (c .before .before .before .before .before .before .before .before .before .before .before .before .before .before .before .before .before .before .before .before .before .before .enum-told .given .1) ∙ c .before .before .before .before .before .before .before .before .before .before .before .before .before .before .before .before .before .before .before .before .before .before .before .before .check-batch .ensures) in
     let k = accepts h yes in
     let s = scratch h yes in
-    (wide k (args .adj-offsets .now) (args .adj-edge .now) (args .adj-far .now) (s .adj-offsets) (s .adj-edge) (s .adj-far) (pre .0 (adj-accepted h yes)), (given-rows h yes (args .list .now) refl, (places (args .adj-offsets .now) (args .adj-edge .now) (args .adj-far .now) (args .defects .now) (args .seen .now) (args .active .now) (args .front .now) (args .touched .now) (args .cnt .now) (args .fresh .now) (args .order-edge .now) (args .order-parent .now) (args .lit .now) (args .growth .now) (args .sat .now) (args .known .now) (args .parent .now) (args .odd .now) (args .boundary-edge .now) (args .hot .now) (args .free .now) (args .live .now) (args .bits .now) s, (record { lits = s .lit; growths = s .growth; sats = s .sat; knowns = s .known }, (record { parents = s .parent; odds = s .odd; exits = s .boundary-edge; hots = s .hot }, record { frees = s .free; lives = s .live; marks = s .bits })))))
+    let p = passed h yes in
+    (wide k (args .adj-offsets .now) (args .adj-edge .now) (args .adj-far .now) (room h refl (k .own-long)) (pre .0 .adjacent (record { counts = p .0; tables = p .1; room = (room h refl (k .own-long)) }) (pre .0 .checked (record { counts = p .0; tables = p .1; room = (room h refl (k .own-long)) }) ∙ p .2)), (given-rows h yes (args .list .now) refl, (places (args .adj-offsets .now) (args .adj-edge .now) (args .adj-far .now) (args .defects .now) (args .seen .now) (args .active .now) (args .front .now) (args .touched .now) (args .cnt .now) (args .fresh .now) (args .order-edge .now) (args .order-parent .now) (args .lit .now) (args .growth .now) (args .sat .now) (args .known .now) (args .parent .now) (args .odd .now) (args .boundary-edge .now) (args .hot .now) (args .free .now) (args .live .now) (args .bits .now) s, (record { lits = s .lit; growths = s .growth; sats = s .sat; knowns = s .known }, (record { parents = s .parent; odds = s .odd; exits = s .boundary-edge; hots = s .hot }, record { frees = s .free; lives = s .live; marks = s .bits })))))
 
 same-length : tie.Need-same-length
 same-length c = c .before .before .before .before .before .before .before .before .before .before .before .before .before .before .before .before .before .before .before .before .before .before .before .before .before .before .before .before .before .before .before .before .before .before .before .before .before .before .before .before .before .before .before .before .decode-parts .kept .0
@@ -110,11 +111,40 @@ same-length-22 c = c .before .before .before .before .before .before .before .be
 
 returns-2 : tie.Need-returns-2
 returns-2 c =
-    let args = c .before .before .before .before .before .before .before .before .before .before .before .before .before .before .before .before .before .before .before .before .before .before .before .before .before .before .before .before .before .before .before .before .before .before .before .before .before .before .before .before .before .before .before .before .before .before .before .before .before .before .before .before .before .before .before .before .before .before .before .before .before .before .before .before .before .before .before .before .before .before .before .before .before .before .before .before .before .before .before .before .before .before .before .before .before .before .before .before .before .before .before .before .before .before .before .before .before .before .before .before .before .args in
-    let own-long = c .before .before .before .before .before .before .before .before .before .before .before .before .before .before .before .before .before .before .before .before .before .before .before .before .before .before .before .before .before .before .before .before .before .before .before .before .before .before .before .before .before .before .before .before .before .before .before .before .before .before .before .before .before .before .before .before .before .before .before .before .before .before .before .before .before .before .before .before .before .before .own-long in
+    let args = c .before .before .before .before .before .before .before .before .before .before .before .before .before .before .before .before .before .before .before .before .before .before .before .before .before .before .before .before .before .before .before .before .before .before .before .before .before .before .before .before .before .before .before .before .before .before .before .before .before .before .before .before .before .before .before .before .before .before .before .before .before .before .before .before .before .before .before .before .before .before .before .before .before .before .before .before .before .before .before .before .before .before .before .before .before .before .before .before .before .before .before .before .before .before .before .before .before .before .before .before .args in
     let h = (handed (lentOf (args .detectors) (args .observables) (args .edges) (args .edge-u .now) (args .edge-v .now) (args .edge-weight .now) (args .edge-obs .now)) (args .rows .now) (args .shots) (args .width) (args .out .now) (length (args .list .now)) (lengthsOf (length (args .adj-offsets .now)) (length (args .adj-edge .now)) (length (args .adj-far .now)) (length (args .defects .now)) (length (args .seen .now)) (length (args .active .now)) (length (args .front .now)) (length (args .touched .now)) (length (args .cnt .now)) (length (args .fresh .now)) (length (args .order-edge .now)) (length (args .order-parent .now)) (length (args .lit .now)) (length (args .growth .now)) (length (args .sat .now)) (length (args .known .now)) (length (args .parent .now)) (length (args .odd .now)) (length (args .boundary-edge .now)) (length (args .hot .now)) (length (args .free .now)) (length (args .live .now)) (length (args .bits .now)))) in
-    let yes = checks-by h (own-long .result) Accepted (own-is h (own-long .ensures) (c .before .before .before .before .before .before .before .before .before .before .before .before .before .before .before .before .before .before .before .before .before .before .before .before .before .before .before .before .before .before .before .before .before .before .before .before .before .before .before .before .before .before .before .before .before .before .before .before .before .before .before .before .before .before .before .before .before .before .before .before .before .before .before .before .before .before .before .before .before .before .before .before .before .before .before .before .before .before .before .before .before .before .before .before .before .before .before .before .before .before .before .before .before .before .before .before .before .before .before .before .before .pre .1)) (sym (c .before .before .before .before .before .before .before .before .before .before .before .before .before .before .before .before .before .before .before .before .before .before .before .before .before .before .before .before .before .before .before .before .before .before .before .before .before .before .before .before .before .before .before .before .before .before .before .before .before .before .before .before .before .before .before .before .before .before .before .before .before .before .before .before .before .before .before .enum-told .given .1) ∙ c .before .before .before .before .before .before .before .before .before .before .before .before .before .before .before .before .before .before .before .before .before .before .before .before .before .before .before .before .before .before .before .before .before .before .before .before .before .before .before .before .before .before .before .before .before .before .before .before .before .before .before .before .before .before .before .before .before .before .before .before .before .before .before .before .before .before .before .before .before .check-call .ensures) in
+    let yes = checks-by h (args .long) Accepted (c .before .before .before .before .before .before .before .before .before .before .before .before .before .before .before .before .before .before .before .before .before .before .before .before .before .before .before .before .before .before .before .before .before .before .before .before .before .before .before .before .before .before .before .before .before .before .before .before .before .before .before .before .before .before .before .before .before .before .before .before .before .before .before .before .before .before .before .before .before .before .before .before .before .before .before .before .before .before .before .before .before .before .before .before .before .before .before .before .before .before .before .before .before .before .before .before .before .before .before .before .pre .1) (sym (c .before .before .before .before .before .before .before .before .before .before .before .before .before .before .before .before .before .before .before .before .before .before .before .before .before .before .before .before .before .before .before .before .before .before .before .before .before .before .before .before .before .before .before .before .before .before .before .before .before .before .before .before .before .before .before .before .before .before .before .before .before .before .before .before .before .before .before .enum-told .given .1) ∙ c .before .before .before .before .before .before .before .before .before .before .before .before .before .before .before .before .before .before .before .before .before .before .before .before .before .before .before .before .before .before .before .before .before .before .before .before .before .before .before .before .before .before .before .before .before .before .before .before .before .before .before .before .before .before .before .before .before .before .before .before .before .before .before .before .before .before .before .before .before .check-batch .ensures) in
     decoded h yes (c .before .before .before .before .before .before .before .before .before .before .before .before .before .before .before .before .before .before .before .before .before .before .before .before .before .before .before .before .before .before .before .before .before .before .before .before .before .before .before .before .before .before .before .before .decode-parts .ensures)
 
 pub decode-checked-spec : {M : Type 1} → statement M
-decode-checked-spec = tie.close (tie.spec own-long-requires check-call-requires enum-known-checked returns enum-told decode-parts-requires same-length same-length-2 same-length-3 same-length-4 same-length-5 same-length-6 same-length-7 same-length-8 same-length-9 same-length-10 same-length-11 same-length-12 same-length-13 same-length-14 same-length-15 same-length-16 same-length-17 same-length-18 same-length-19 same-length-20 same-length-21 same-length-22 returns-2)
+decode-checked-spec =
+    tie.close
+    (tie.spec
+    check-batch-requires
+    enum-known-checked
+    returns
+    enum-told
+    decode-parts-requires
+    same-length
+    same-length-2
+    same-length-3
+    same-length-4
+    same-length-5
+    same-length-6
+    same-length-7
+    same-length-8
+    same-length-9
+    same-length-10
+    same-length-11
+    same-length-12
+    same-length-13
+    same-length-14
+    same-length-15
+    same-length-16
+    same-length-17
+    same-length-18
+    same-length-19
+    same-length-20
+    same-length-21
+    same-length-22
+    returns-2)

@@ -7,9 +7,9 @@ use Rattle.codes.specs.declared.Checked.the-variants.{Accepted, Refused}
 use Rattle.tabled.proofs.Laws.{wide}
 use Rattle.decoder.proofs.Laws.{places}
 use Rattle.batch.specs.Batch.{handed}
-use Rattle.batch.proofs.Calls.{accepts, scratch, given-rows}
+use Rattle.batch.proofs.Calls.{room, accepts, scratch, given-rows}
 use Rattle.rate.specs.Rate.{compared}
-use Rattle.rate.proofs.Calls.{room, checks-by, refused, passed, batch-accepted, comparable, rated}
+use Rattle.rate.proofs.Calls.{checks-by, refused, passed, batch-accepted, comparable, rated}
 use borrow.Author.Needs.{needs}
 use Rattle.rate.proofs.rate_checked.Statement.{statement}
 use Rattle.rate.proofs.rate_checked.Tie as tie
