@@ -1,7 +1,7 @@
 #!/usr/bin/env bash
 # What is tested over the static library: the C header and a program that calls it, the Rust client, the quick comparison with the published Rust. Each is run where all that
 # it needs is at hand, and is said to be left out where it is not. Fails where one of them ran and failed.
-set -eu
+set -euo pipefail
 cd "$(dirname "$0")/.."
 
 left_out() { echo "tests: NOT RUN: $1"; }
