@@ -129,8 +129,6 @@ struct pavrenni_lengths {
     size_t boundary_edge;
     size_t hot;
     size_t free;
-    size_t live;
-    size_t bits;
 };
 
 struct pavrenni_decompose_lengths {
@@ -208,9 +206,7 @@ struct pavrenni_mark_lengths pavrenni_mark_lengths_for(size_t detectors, size_t 
     bool *odd, size_t odd_len,                                                                                         \
     uint32_t *boundary_edge, size_t boundary_edge_len,                                                                 \
     bool *hot, size_t hot_len,                                                                                         \
-    bool *free, size_t free_len,                                                                                       \
-    bool *live, size_t live_len,                                                                                       \
-    uint64_t *bits, size_t bits_len
+    bool *free, size_t free_len
 
 /* ---- calls */
 

@@ -70,8 +70,6 @@ tables! {
         boundary_edge: u32,
         hot: bool,
         free: bool,
-        live: bool,
-        bits: u64,
     }
 }
 
@@ -166,10 +164,6 @@ macro_rules! decode {
                 $scratch.hot.len(),
                 $scratch.free.as_mut_ptr(),
                 $scratch.free.len(),
-                $scratch.live.as_mut_ptr(),
-                $scratch.live.len(),
-                $scratch.bits.as_mut_ptr(),
-                $scratch.bits.len(),
                 $graph.detectors,
                 $graph.observables,
                 $graph.edges(),

@@ -74,8 +74,6 @@ scratch! {
         boundary_edge: u32,
         hot: bool,
         free: bool,
-        live: bool,
-        bits: u64,
     }
 }
 
@@ -236,10 +234,6 @@ macro_rules! decoding {
                 s.hot.len(),
                 s.free.as_mut_ptr(),
                 s.free.len(),
-                s.live.as_mut_ptr(),
-                s.live.len(),
-                s.bits.as_mut_ptr(),
-                s.bits.len(),
                 graph.detectors,
                 graph.observables,
                 edges,

@@ -96,8 +96,6 @@ pub struct Lengths {
     pub boundary_edge: usize,
     pub hot: usize,
     pub free: usize,
-    pub live: usize,
-    pub bits: usize,
 }
 
 /// The least lengths of the scratch slices of decomposition.
@@ -240,10 +238,6 @@ macro_rules! decoding {
                 hot_len: usize,
                 free: *mut bool,
                 free_len: usize,
-                live: *mut bool,
-                live_len: usize,
-                bits: *mut u64,
-                bits_len: usize,
                 detectors: usize,
                 observables: usize,
                 edges: usize,

@@ -34,7 +34,7 @@ fn structs() {
     layout!(text: "pavrenni_rate" Rate { code, first, second, rate });
     layout!(text: "pavrenni_lengths" Lengths {
         adj_offsets, adj_edge, adj_far, defects, seen, active, front, touched, cnt, fresh, order_edge, order_parent, lit, growth, sat,
-        known, parent, odd, boundary_edge, hot, free, live, bits,
+        known, parent, odd, boundary_edge, hot, free,
     });
     layout!(text: "pavrenni_decompose_lengths" DecomposeLengths {
         starts, before, last_of, first_of, next_of, numbers, masks, words0, words1, earlier,
@@ -120,10 +120,10 @@ fn calls() {
         ("pavrenni_mark_lengths_for", 2),
         ("pavrenni_decompose", 3 + 2 * 7 + 2 * 7 + 2 * 10),
         ("pavrenni_compile", 3 + 2 * 7 + 2 * 4 + 2 * 3),
-        ("pavrenni_decode_shot", 3 + 2 * 4 + 7 + 2 * 23),
-        ("pavrenni_decode_batch", 3 + 2 * 4 + 8 + 2 * 23),
+        ("pavrenni_decode_shot", 3 + 2 * 4 + 7 + 2 * 21),
+        ("pavrenni_decode_batch", 3 + 2 * 4 + 8 + 2 * 21),
         ("pavrenni_mark", 3 + 2 * 4 + 7 + 2 * 2),
-        ("pavrenni_rate", 3 + 2 * 4 + 12 + 2 * 23),
+        ("pavrenni_rate", 3 + 2 * 4 + 12 + 2 * 21),
     ];
     for (call, count) in calls {
         assert_eq!(in_sys(call), in_header(call), "{call}");

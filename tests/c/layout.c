@@ -58,8 +58,6 @@ static void decoder_lengths(void)
     FIELD(pavrenni_lengths, boundary_edge);
     FIELD(pavrenni_lengths, hot);
     FIELD(pavrenni_lengths, free);
-    FIELD(pavrenni_lengths, live);
-    FIELD(pavrenni_lengths, bits);
 }
 
 static void other_lengths(void)

@@ -24,7 +24,7 @@ static int failures = 0;
     SLICE(seen, uint32_t) SLICE(active, uint32_t) SLICE(front, uint32_t) SLICE(touched, uint32_t) SLICE(cnt, uint8_t) \
     SLICE(fresh, uint32_t) SLICE(order_edge, uint32_t) SLICE(order_parent, uint32_t) SLICE(lit, bool) \
     SLICE(growth, double) SLICE(sat, bool) SLICE(known, bool) SLICE(parent, uint32_t) SLICE(odd, bool) \
-    SLICE(boundary_edge, uint32_t) SLICE(hot, bool) SLICE(free, bool) SLICE(live, bool) SLICE(bits, uint64_t)
+    SLICE(boundary_edge, uint32_t) SLICE(hot, bool) SLICE(free, bool)
 
 #define DECOMPOSE_SLICES(SLICE) \
     SLICE(starts, uint32_t) SLICE(before, uint32_t) SLICE(last_of, uint32_t) SLICE(first_of, uint32_t) \
@@ -144,7 +144,7 @@ static struct pavrenni_batch decode_batch(const struct graph *graph, const struc
     uint32_t list[2];
     s.lengths = pavrenni_lengths_for(graph->detectors, graph->edges);
     DECODER_SLICES(TAKE)
-    s.lengths.bits -= a->lacks;
+    s.lengths.free -= a->lacks;
     struct pavrenni_batch answer = pavrenni_decode_batch(
         out, a->out_len, list, a->list_len DECODER_SLICES(LENT), GRAPH(graph), a->rows, a->rows_len, a->shots, a->width);
     DECODER_SLICES(GIVE_BACK)
@@ -157,7 +157,7 @@ static struct pavrenni_rate rate(const struct graph *graph, const struct asked *
     uint32_t list[2];
     s.lengths = pavrenni_lengths_for(graph->detectors, graph->edges);
     DECODER_SLICES(TAKE)
-    s.lengths.bits -= a->lacks;
+    s.lengths.free -= a->lacks;
     struct pavrenni_rate answer = pavrenni_rate(
         out, a->out_len, list, a->list_len DECODER_SLICES(LENT), GRAPH(graph), a->rows, a->rows_len, a->shots, a->width,
         a->truth, a->truth_len, a->true_shots, a->true_width);

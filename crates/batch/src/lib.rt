@@ -90,8 +90,6 @@ fn decode_checked(
     boundary_edge: &mut [u32],
     hot: &mut [bool],
     free: &mut [bool],
-    live: &mut [bool],
-    bits: &mut [u64],
     detectors: usize,
     observables: usize,
     edges: usize,
@@ -109,8 +107,8 @@ fn decode_checked(
     long: bool,
 ) -> Checked
     requires { ⌜ Graphed (lentOf detectors observables edges (now «edge_u») (now «edge_v») (now «edge_weight») (now «edge_obs»)) graph (now «adj_offsets») (now «adj_edge») (now «adj_far») ⌝ }
-    requires { ⌜ long ≡ ownLong (handed (lentOf detectors observables edges (now «edge_u») (now «edge_v») (now «edge_weight») (now «edge_obs»)) (now rows) shots width (now out) (length (now list)) (lengthsOf (length (now «adj_offsets»)) (length (now «adj_edge»)) (length (now «adj_far»)) (length (now defects)) (length (now seen)) (length (now active)) (length (now front)) (length (now touched)) (length (now cnt)) (length (now fresh)) (length (now «order_edge»)) (length (now «order_parent»)) (length (now lit)) (length (now growth)) (length (now sat)) (length (now known)) (length (now parent)) (length (now odd)) (length (now «boundary_edge»)) (length (now hot)) (length (now free)) (length (now live)) (length (now bits)))) ⌝ }
-    ensures { λ r. ⌜ Decodes (handed (lentOf detectors observables edges (now («edge_u» .entry)) (now («edge_v» .entry)) (now («edge_weight» .entry)) (now («edge_obs» .entry))) (now (rows .entry)) shots width (now (out .entry)) (length (now (list .entry))) (lengthsOf (length (now («adj_offsets» .entry))) (length (now («adj_edge» .entry))) (length (now («adj_far» .entry))) (length (now (defects .entry))) (length (now (seen .entry))) (length (now (active .entry))) (length (now (front .entry))) (length (now (touched .entry))) (length (now (cnt .entry))) (length (now (fresh .entry))) (length (now («order_edge» .entry))) (length (now («order_parent» .entry))) (length (now (lit .entry))) (length (now (growth .entry))) (length (now (sat .entry))) (length (now (known .entry))) (length (now (parent .entry))) (length (now (odd .entry))) (length (now («boundary_edge» .entry))) (length (now (hot .entry))) (length (now (free .entry))) (length (now (live .entry))) (length (now (bits .entry))))) r (now (out .exit)) ⌝ }
+    requires { ⌜ long ≡ ownLong (handed (lentOf detectors observables edges (now «edge_u») (now «edge_v») (now «edge_weight») (now «edge_obs»)) (now rows) shots width (now out) (length (now list)) (lengthsOf (length (now «adj_offsets»)) (length (now «adj_edge»)) (length (now «adj_far»)) (length (now defects)) (length (now seen)) (length (now active)) (length (now front)) (length (now touched)) (length (now cnt)) (length (now fresh)) (length (now «order_edge»)) (length (now «order_parent»)) (length (now lit)) (length (now growth)) (length (now sat)) (length (now known)) (length (now parent)) (length (now odd)) (length (now «boundary_edge»)) (length (now hot)) (length (now free)))) ⌝ }
+    ensures { λ r. ⌜ Decodes (handed (lentOf detectors observables edges (now («edge_u» .entry)) (now («edge_v» .entry)) (now («edge_weight» .entry)) (now («edge_obs» .entry))) (now (rows .entry)) shots width (now (out .entry)) (length (now (list .entry))) (lengthsOf (length (now («adj_offsets» .entry))) (length (now («adj_edge» .entry))) (length (now («adj_far» .entry))) (length (now (defects .entry))) (length (now (seen .entry))) (length (now (active .entry))) (length (now (front .entry))) (length (now (touched .entry))) (length (now (cnt .entry))) (length (now (fresh .entry))) (length (now («order_edge» .entry))) (length (now («order_parent» .entry))) (length (now (lit .entry))) (length (now (growth .entry))) (length (now (sat .entry))) (length (now (known .entry))) (length (now (parent .entry))) (length (now (odd .entry))) (length (now («boundary_edge» .entry))) (length (now (hot .entry))) (length (now (free .entry))))) r (now (out .exit)) ⌝ }
 {
     let checked = check_batch(
         detectors,
@@ -150,8 +148,6 @@ fn decode_checked(
         boundary_edge,
         hot,
         free,
-        live,
-        bits,
         detectors,
         observables,
         edges,
@@ -189,8 +185,6 @@ fn decode_long(
     boundary_edge: &mut [u32],
     hot: &mut [bool],
     free: &mut [bool],
-    live: &mut [bool],
-    bits: &mut [u64],
     detectors: usize,
     observables: usize,
     edges: usize,
@@ -208,8 +202,8 @@ fn decode_long(
     clean: bool,
 ) -> Checked
     requires { ⌜ Graphed (lentOf detectors observables edges (now «edge_u») (now «edge_v») (now «edge_weight») (now «edge_obs»)) graph (now «adj_offsets») (now «adj_edge») (now «adj_far») ⌝ }
-    requires { ⌜ clean ≡ cleanLong detectors edges (length (now lit)) (length (now growth)) (length (now sat)) (length (now known)) (length (now parent)) (length (now odd)) (length (now «boundary_edge»)) (length (now hot)) (length (now free)) (length (now live)) (length (now bits)) ⌝ }
-    ensures { λ r. ⌜ Decodes (handed (lentOf detectors observables edges (now («edge_u» .entry)) (now («edge_v» .entry)) (now («edge_weight» .entry)) (now («edge_obs» .entry))) (now (rows .entry)) shots width (now (out .entry)) (length (now (list .entry))) (lengthsOf (length (now («adj_offsets» .entry))) (length (now («adj_edge» .entry))) (length (now («adj_far» .entry))) (length (now (defects .entry))) (length (now (seen .entry))) (length (now (active .entry))) (length (now (front .entry))) (length (now (touched .entry))) (length (now (cnt .entry))) (length (now (fresh .entry))) (length (now («order_edge» .entry))) (length (now («order_parent» .entry))) (length (now (lit .entry))) (length (now (growth .entry))) (length (now (sat .entry))) (length (now (known .entry))) (length (now (parent .entry))) (length (now (odd .entry))) (length (now («boundary_edge» .entry))) (length (now (hot .entry))) (length (now (free .entry))) (length (now (live .entry))) (length (now (bits .entry))))) r (now (out .exit)) ⌝ }
+    requires { ⌜ clean ≡ cleanLong detectors edges (length (now lit)) (length (now growth)) (length (now sat)) (length (now known)) (length (now parent)) (length (now odd)) (length (now «boundary_edge»)) (length (now hot)) (length (now free)) ⌝ }
+    ensures { λ r. ⌜ Decodes (handed (lentOf detectors observables edges (now («edge_u» .entry)) (now («edge_v» .entry)) (now («edge_weight» .entry)) (now («edge_obs» .entry))) (now (rows .entry)) shots width (now (out .entry)) (length (now (list .entry))) (lengthsOf (length (now («adj_offsets» .entry))) (length (now («adj_edge» .entry))) (length (now («adj_far» .entry))) (length (now (defects .entry))) (length (now (seen .entry))) (length (now (active .entry))) (length (now (front .entry))) (length (now (touched .entry))) (length (now (cnt .entry))) (length (now (fresh .entry))) (length (now («order_edge» .entry))) (length (now («order_parent» .entry))) (length (now (lit .entry))) (length (now (growth .entry))) (length (now (sat .entry))) (length (now (known .entry))) (length (now (parent .entry))) (length (now (odd .entry))) (length (now («boundary_edge» .entry))) (length (now (hot .entry))) (length (now (free .entry))))) r (now (out .exit)) ⌝ }
 {
     let long = tabled::own_long(
         detectors,
@@ -253,8 +247,6 @@ fn decode_long(
         boundary_edge,
         hot,
         free,
-        live,
-        bits,
         detectors,
         observables,
         edges,
@@ -295,8 +287,6 @@ fn decode_tabled(
     boundary_edge: &mut [u32],
     hot: &mut [bool],
     free: &mut [bool],
-    live: &mut [bool],
-    bits: &mut [u64],
     detectors: usize,
     observables: usize,
     edges: usize,
@@ -313,7 +303,7 @@ fn decode_tabled(
     graph: Checked,
 ) -> Checked
     requires { ⌜ Graphed (lentOf detectors observables edges (now «edge_u») (now «edge_v») (now «edge_weight») (now «edge_obs»)) graph (now «adj_offsets») (now «adj_edge») (now «adj_far») ⌝ }
-    ensures { λ r. ⌜ Decodes (handed (lentOf detectors observables edges (now («edge_u» .entry)) (now («edge_v» .entry)) (now («edge_weight» .entry)) (now («edge_obs» .entry))) (now (rows .entry)) shots width (now (out .entry)) (length (now (list .entry))) (lengthsOf (length (now («adj_offsets» .entry))) (length (now («adj_edge» .entry))) (length (now («adj_far» .entry))) (length (now (defects .entry))) (length (now (seen .entry))) (length (now (active .entry))) (length (now (front .entry))) (length (now (touched .entry))) (length (now (cnt .entry))) (length (now (fresh .entry))) (length (now («order_edge» .entry))) (length (now («order_parent» .entry))) (length (now (lit .entry))) (length (now (growth .entry))) (length (now (sat .entry))) (length (now (known .entry))) (length (now (parent .entry))) (length (now (odd .entry))) (length (now («boundary_edge» .entry))) (length (now (hot .entry))) (length (now (free .entry))) (length (now (live .entry))) (length (now (bits .entry))))) r (now (out .exit)) ⌝ }
+    ensures { λ r. ⌜ Decodes (handed (lentOf detectors observables edges (now («edge_u» .entry)) (now («edge_v» .entry)) (now («edge_weight» .entry)) (now («edge_obs» .entry))) (now (rows .entry)) shots width (now (out .entry)) (length (now (list .entry))) (lengthsOf (length (now («adj_offsets» .entry))) (length (now («adj_edge» .entry))) (length (now («adj_far» .entry))) (length (now (defects .entry))) (length (now (seen .entry))) (length (now (active .entry))) (length (now (front .entry))) (length (now (touched .entry))) (length (now (cnt .entry))) (length (now (fresh .entry))) (length (now («order_edge» .entry))) (length (now («order_parent» .entry))) (length (now (lit .entry))) (length (now (growth .entry))) (length (now (sat .entry))) (length (now (known .entry))) (length (now (parent .entry))) (length (now (odd .entry))) (length (now («boundary_edge» .entry))) (length (now (hot .entry))) (length (now (free .entry))))) r (now (out .exit)) ⌝ }
 {
     let clean = tabled::clean_long(
         detectors,
@@ -327,8 +317,6 @@ fn decode_tabled(
         boundary_edge.len(),
         hot.len(),
         free.len(),
-        live.len(),
-        bits.len(),
     );
     decode_long(
         out,
@@ -351,8 +339,6 @@ fn decode_tabled(
         boundary_edge,
         hot,
         free,
-        live,
-        bits,
         detectors,
         observables,
         edges,
@@ -399,8 +385,6 @@ pub fn decode_batch(
     boundary_edge: &mut [u32],
     hot: &mut [bool],
     free: &mut [bool],
-    live: &mut [bool],
-    bits: &mut [u64],
     edge_u: &[u32],
     edge_v: &[u32],
     edge_weight: &[f64],
@@ -409,7 +393,7 @@ pub fn decode_batch(
     shots: usize,
     width: usize,
 ) -> Checked
-    ensures { λ r. ⌜ Decodes (handed (lentOf detectors observables edges (now («edge_u» .entry)) (now («edge_v» .entry)) (now («edge_weight» .entry)) (now («edge_obs» .entry))) (now (rows .entry)) shots width (now (out .entry)) (length (now (list .entry))) (lengthsOf (length (now («adj_offsets» .entry))) (length (now («adj_edge» .entry))) (length (now («adj_far» .entry))) (length (now (defects .entry))) (length (now (seen .entry))) (length (now (active .entry))) (length (now (front .entry))) (length (now (touched .entry))) (length (now (cnt .entry))) (length (now (fresh .entry))) (length (now («order_edge» .entry))) (length (now («order_parent» .entry))) (length (now (lit .entry))) (length (now (growth .entry))) (length (now (sat .entry))) (length (now (known .entry))) (length (now (parent .entry))) (length (now (odd .entry))) (length (now («boundary_edge» .entry))) (length (now (hot .entry))) (length (now (free .entry))) (length (now (live .entry))) (length (now (bits .entry))))) r (now (out .exit)) ⌝ }
+    ensures { λ r. ⌜ Decodes (handed (lentOf detectors observables edges (now («edge_u» .entry)) (now («edge_v» .entry)) (now («edge_weight» .entry)) (now («edge_obs» .entry))) (now (rows .entry)) shots width (now (out .entry)) (length (now (list .entry))) (lengthsOf (length (now («adj_offsets» .entry))) (length (now («adj_edge» .entry))) (length (now («adj_far» .entry))) (length (now (defects .entry))) (length (now (seen .entry))) (length (now (active .entry))) (length (now (front .entry))) (length (now (touched .entry))) (length (now (cnt .entry))) (length (now (fresh .entry))) (length (now («order_edge» .entry))) (length (now («order_parent» .entry))) (length (now (lit .entry))) (length (now (growth .entry))) (length (now (sat .entry))) (length (now (known .entry))) (length (now (parent .entry))) (length (now (odd .entry))) (length (now («boundary_edge» .entry))) (length (now (hot .entry))) (length (now (free .entry))))) r (now (out .exit)) ⌝ }
 {
     let graph = tabled::check_graph(
         adj_offsets,
@@ -444,8 +428,6 @@ pub fn decode_batch(
         boundary_edge,
         hot,
         free,
-        live,
-        bits,
         detectors,
         observables,
         edges,

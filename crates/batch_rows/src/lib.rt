@@ -42,13 +42,11 @@ pub fn decode_rows(
     boundary_edge: &mut [u32],
     hot: &mut [bool],
     free: &mut [bool],
-    live: &mut [bool],
-    bits: &mut [u64],
 ) -> Checked
     requires { ⌜ Tables detectors observables (now «edge_u») (now «edge_v») (now «edge_weight») (now «edge_obs») (now «adj_offsets») (now «adj_edge») (now «adj_far») ⌝ }
     requires { ⌜ GivenRows detectors observables shots (now rows) (now out) (now list) ⌝ }
     requires { ⌜ Places detectors (length (now «edge_u»)) (now defects) (now seen) (now active) (now front) (now touched) (now cnt) (now fresh) (now «order_edge») (now «order_parent») ⌝ }
-    requires { ⌜ Clean detectors (length (now «edge_u»)) (now lit) (now growth) (now sat) (now known) (now parent) (now odd) (now «boundary_edge») (now hot) (now free) (now live) (now bits) ⌝ }
+    requires { ⌜ Clean detectors (length (now «edge_u»)) (now lit) (now growth) (now sat) (now known) (now parent) (now odd) (now «boundary_edge») (now hot) (now free) ⌝ }
     ensures answers { λ r. ⌜ r ≡ checkShotsOf (graphIn detectors observables (now («edge_u» .entry)) (now («edge_v» .entry)) (now («edge_weight» .entry)) (now («edge_obs» .entry))) (now (rows .entry)) (below shots) ⌝ }
     ensures rows { λ _. ⌜ now (out .exit) ≡ rowsOf (graphIn detectors observables (now («edge_u» .entry)) (now («edge_v» .entry)) (now («edge_weight» .entry)) (now («edge_obs» .entry))) (now (rows .entry)) (below shots) (now (out .entry)) ⌝ }
 {
@@ -88,8 +86,6 @@ pub fn decode_rows(
             boundary_edge,
             hot,
             free,
-            live,
-            bits,
         );
         if let Shot::Stuck {
             rounds: _,

@@ -2,8 +2,10 @@
 use Prim.Native.Nat.{ℕ, _+_, _*_, _≤_}
 use mathlib.Core.Path.{_≡_}
 use mathlib.Core.List.{List, _++_}
-use mathlib.Core.Bool.{true}
+use mathlib.Core.Bool.{Bool, true, not}
+use lib.Dec.{eqb}
 use lib.ListN.{length, take, drop}
+use Rattle.lists.specs.Lists.{any}
 use Rattle.bits.specs.Rows.{words, isClear}
 use Rattle.codes.specs.Limits.{maxDetectors, maxObservables, maxShots}
 use Rattle.packed.specs.Packed.{rowAt}
@@ -11,6 +13,10 @@ use Rattle.steps.specs.Graph.{Graph}
 use Rattle.steps.specs.Rows.{zeros}
 use Rattle.steps.specs.Shot.{Decoded, decode, rowLeft}
 use Rattle.steps.specs.Call.{litOf}
+
+-- no word of a row has a bit set
+abbrev pub isBlank : List ℕ → Bool
+isBlank row = not (any (λ w. not (eqb w 0)) row)
 
 -- the row of shot s, w words from s·w on, in its place
 unfoldable pub putRow : ℕ → ℕ → List ℕ → List ℕ → List ℕ

@@ -7,9 +7,24 @@ ghost use Rattle.steps.specs.Rows.{zeros};
 ghost use Rattle.steps.specs.Shot.{rowLeft};
 ghost use Rattle.cleaning.specs.Clean.{Clean};
 ghost use Rattle.shot_answer.specs.Shots.{Tables, Places, Given, graphIn, decodeIn, shotOf};
-ghost use Rattle.batch_shot.specs.Row.{putRow, shotAt, rowFor, GivenRow};
+ghost use Rattle.batch_shot.specs.Row.{isBlank, putRow, shotAt, rowFor, GivenRow};
 
-// Zeroes the row and decodes the shot into it. Long for its parameters, one a line.
+// Whether no word of a row has a bit set.
+pub fn is_blank(row: &[u64]) -> bool
+    ensures { λ r. ⌜ r ≡ isBlank (now (row .entry)) ⌝ }
+{
+    let mut i = 0;
+    while i < row.len() {
+        let word = row[i];
+        i += 1;
+        if word != 0 {
+            return false;
+        }
+    }
+    true
+}
+
+// Zeroes the row and decodes the shot into it. A blank shot is answered here, before some sixty words of slices are handed on. Long for its parameters, one a line.
 fn decode_row(
     detectors: usize,
     observables: usize,
@@ -41,19 +56,24 @@ fn decode_row(
     boundary_edge: &mut [u32],
     hot: &mut [bool],
     free: &mut [bool],
-    live: &mut [bool],
-    bits: &mut [u64],
 ) -> Shot
     requires { ⌜ Tables detectors observables (now «edge_u») (now «edge_v») (now «edge_weight») (now «edge_obs») (now «adj_offsets») (now «adj_edge») (now «adj_far») ⌝ }
     requires { ⌜ Given detectors observables (now shot) (now row) (now list) ⌝ }
     requires { ⌜ length (now row) ≡ words observables ⌝ }
     requires { ⌜ Places detectors (length (now «edge_u»)) (now defects) (now seen) (now active) (now front) (now touched) (now cnt) (now fresh) (now «order_edge») (now «order_parent») ⌝ }
-    requires { ⌜ Clean detectors (length (now «edge_u»)) (now lit) (now growth) (now sat) (now known) (now parent) (now odd) (now «boundary_edge») (now hot) (now free) (now live) (now bits) ⌝ }
+    requires { ⌜ Clean detectors (length (now «edge_u»)) (now lit) (now growth) (now sat) (now known) (now parent) (now odd) (now «boundary_edge») (now hot) (now free) ⌝ }
     ensures answers { λ r. ⌜ r ≡ shotOf (decodeIn detectors observables (now («edge_u» .entry)) (now («edge_v» .entry)) (now («edge_weight» .entry)) (now («edge_obs» .entry)) (now (shot .entry))) ⌝ }
     ensures rows { λ _. ⌜ now (row .exit) ≡ rowLeft (graphIn detectors observables (now («edge_u» .entry)) (now («edge_v» .entry)) (now («edge_weight» .entry)) (now («edge_obs» .entry))) (zeros (graphIn detectors observables (now («edge_u» .entry)) (now («edge_v» .entry)) (now («edge_weight» .entry)) (now («edge_obs» .entry)))) (decodeIn detectors observables (now («edge_u» .entry)) (now («edge_v» .entry)) (now («edge_weight» .entry)) (now («edge_obs» .entry)) (now (shot .entry))) ⌝ }
-    ensures rests { λ _. ⌜ Clean detectors (length (now («edge_u» .entry))) (now (lit .exit)) (now (growth .exit)) (now (sat .exit)) (now (known .exit)) (now (parent .exit)) (now (odd .exit)) (now («boundary_edge» .exit)) (now (hot .exit)) (now (free .exit)) (now (live .exit)) (now (bits .exit)) ⌝ }
+    ensures rests { λ _. ⌜ Clean detectors (length (now («edge_u» .entry))) (now (lit .exit)) (now (growth .exit)) (now (sat .exit)) (now (known .exit)) (now (parent .exit)) (now (odd .exit)) (now («boundary_edge» .exit)) (now (hot .exit)) (now (free .exit)) ⌝ }
 {
     fills::fill_u64(row, 0);
+    let blank = is_blank(shot);
+    if blank {
+        return Shot::Decoded {
+            rounds: 0,
+            length: 0,
+        };
+    }
     shots::decode_clean(
         detectors,
         observables,
@@ -85,8 +105,6 @@ fn decode_row(
         boundary_edge,
         hot,
         free,
-        live,
-        bits,
     )
 }
 
@@ -123,16 +141,14 @@ pub fn decode_at(
     boundary_edge: &mut [u32],
     hot: &mut [bool],
     free: &mut [bool],
-    live: &mut [bool],
-    bits: &mut [u64],
 ) -> Shot
     requires { ⌜ Tables detectors observables (now «edge_u») (now «edge_v») (now «edge_weight») (now «edge_obs») (now «adj_offsets») (now «adj_edge») (now «adj_far») ⌝ }
     requires { ⌜ GivenRow detectors observables shot (now rows) (now out) (now list) ⌝ }
     requires { ⌜ Places detectors (length (now «edge_u»)) (now defects) (now seen) (now active) (now front) (now touched) (now cnt) (now fresh) (now «order_edge») (now «order_parent») ⌝ }
-    requires { ⌜ Clean detectors (length (now «edge_u»)) (now lit) (now growth) (now sat) (now known) (now parent) (now odd) (now «boundary_edge») (now hot) (now free) (now live) (now bits) ⌝ }
+    requires { ⌜ Clean detectors (length (now «edge_u»)) (now lit) (now growth) (now sat) (now known) (now parent) (now odd) (now «boundary_edge») (now hot) (now free) ⌝ }
     ensures answers { λ r. ⌜ r ≡ shotOf (shotAt (graphIn detectors observables (now («edge_u» .entry)) (now («edge_v» .entry)) (now («edge_weight» .entry)) (now («edge_obs» .entry))) (now (rows .entry)) shot) ⌝ }
     ensures rows { λ _. ⌜ now (out .exit) ≡ putRow (words observables) shot (rowFor (graphIn detectors observables (now («edge_u» .entry)) (now («edge_v» .entry)) (now («edge_weight» .entry)) (now («edge_obs» .entry))) (now (rows .entry)) shot) (now (out .entry)) ⌝ }
-    ensures rests { λ _. ⌜ Clean detectors (length (now («edge_u» .entry))) (now (lit .exit)) (now (growth .exit)) (now (sat .exit)) (now (known .exit)) (now (parent .exit)) (now (odd .exit)) (now («boundary_edge» .exit)) (now (hot .exit)) (now (free .exit)) (now (live .exit)) (now (bits .exit)) ⌝ }
+    ensures rests { λ _. ⌜ Clean detectors (length (now («edge_u» .entry))) (now (lit .exit)) (now (growth .exit)) (now (sat .exit)) (now (known .exit)) (now (parent .exit)) (now (odd .exit)) (now («boundary_edge» .exit)) (now (hot .exit)) (now (free .exit)) ⌝ }
 {
     let m = bits::words(detectors);
     let w = bits::words(observables);
@@ -171,7 +187,5 @@ pub fn decode_at(
         boundary_edge,
         hot,
         free,
-        live,
-        bits,
     )
 }

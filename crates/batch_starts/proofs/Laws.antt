@@ -1,4 +1,4 @@
--- The tables of marks in as many words as the edges need, and what the first entries of a graph's tables ask and leave.
+-- What the first entries of a graph's tables ask and leave.
 use Prim.Native.Nat.{ℕ, _-_}
 use native.Mathlib.Omega.{arith}
 use mathlib.Core.Path.{_≡_, subst}
@@ -7,19 +7,14 @@ use mathlib.Core.Bool.{Bool}
 use lib.Ieee.{Float}
 use lib.ListN.{length}
 use Rattle.lists.specs.Lists.{below}
-use Rattle.bits.specs.Rows.{words}
 use Rattle.codes.specs.declared.Checked.{Checked}
 use Rattle.steps.specs.Graph.{Graph}
 use Rattle.steps.specs.Call.{graphOf}
 use Rattle.shot_answer.specs.Shots.{graphIn}
 use Rattle.parts.specs.Wide.{Wide}
 use Rattle.parts.proofs.Laws.{part, part-length, graph-part}
-use Rattle.resets.specs.Rest.{cut, GrowthSpaces, MarkSpaces, MarkRest}
+use Rattle.resets.specs.Rest.{GrowthSpaces}
 use Rattle.batch_rows.specs.Rows.{checkShotsOf, rowsOf}
-
--- as many words of marks as the edges need
-pub marks-in : {d E w : ℕ} {free live : List Bool} (bits : List ℕ) → w ≡ words E → MarkRest d E free live (cut (words E) bits) → MarkRest d E free live (cut w bits)
-marks-in bits e m = rw e m
 
 module _ {d o n : ℕ} {u v : List ℕ} {weight : List Float} {obs off adj far : List ℕ} (t : Wide d o n u v weight obs off adj far) where
   counted : length (part n u) ≡ n
@@ -27,9 +22,6 @@ module _ {d o n : ℕ} {u v : List ℕ} {weight : List Float} {obs off adj far :
 
   pub growth-spaces : {lit : List Bool} {growth : List Float} {sat known : List Bool} → GrowthSpaces d n lit growth sat known → GrowthSpaces d (length (part n u)) lit growth sat known
   growth-spaces k = rw counted k
-
-  pub mark-spaces : {free live : List Bool} {bits : List ℕ} → MarkSpaces d n free live bits → MarkSpaces d (length (part n u)) free live bits
-  mark-spaces k = rw counted k
 
   -- what the shots leave on the parts they leave on the graph
   pub parted : (rows out : List ℕ) (shots : ℕ) {r : Checked} {out′ : List ℕ}

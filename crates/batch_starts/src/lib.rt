@@ -7,100 +7,16 @@ ghost use Rattle.lists.specs.Lists.{below};
 ghost use Rattle.steps.specs.Call.{graphOf};
 ghost use Rattle.shot_answer.specs.Shots.{Tables, Places, graphIn};
 ghost use Rattle.parts.specs.Wide.{Wide};
-ghost use Rattle.resets.specs.Rest.{GrowthSpaces, GrowthRest, ClusterSpaces, ClusterRest, MarkSpaces};
+ghost use Rattle.resets.specs.Rest.{GrowthSpaces, GrowthRest, ClusterSpaces};
 ghost use Rattle.batch_rows.specs.Rows.{checkShotsOf, rowsOf, GivenRows};
 
-// The tables of marks put to rest. Long for its parameters, one a line.
-fn decode_marks(
-    detectors: usize,
-    observables: usize,
-    edge_u: &[u32],
-    edge_v: &[u32],
-    edge_weight: &[f64],
-    edge_obs: &[u64],
-    adj_offsets: &[u32],
-    adj_edge: &[u32],
-    adj_far: &[u32],
-    rows: &[u64],
-    shots: usize,
-    out: &mut [u64],
-    list: &mut [u32],
-    defects: &mut [u32],
-    seen: &mut [u32],
-    active: &mut [u32],
-    front: &mut [u32],
-    touched: &mut [u32],
-    cnt: &mut [u8],
-    fresh: &mut [u32],
-    order_edge: &mut [u32],
-    order_parent: &mut [u32],
-    lit: &mut [bool],
-    growth: &mut [f64],
-    sat: &mut [bool],
-    known: &mut [bool],
-    parent: &mut [u32],
-    odd: &mut [bool],
-    boundary_edge: &mut [u32],
-    hot: &mut [bool],
-    free: &mut [bool],
-    live: &mut [bool],
-    bits: &mut [u64],
-) -> Checked
-    requires { ⌜ Tables detectors observables (now «edge_u») (now «edge_v») (now «edge_weight») (now «edge_obs») (now «adj_offsets») (now «adj_edge») (now «adj_far») ⌝ }
-    requires { ⌜ GivenRows detectors observables shots (now rows) (now out) (now list) ⌝ }
-    requires { ⌜ Places detectors (length (now «edge_u»)) (now defects) (now seen) (now active) (now front) (now touched) (now cnt) (now fresh) (now «order_edge») (now «order_parent») ⌝ }
-    requires { ⌜ GrowthRest detectors (length (now «edge_u»)) (now lit) (now growth) (now sat) (now known) ⌝ }
-    requires { ⌜ ClusterRest detectors (now parent) (now odd) (now «boundary_edge») (now hot) ⌝ }
-    requires { ⌜ MarkSpaces detectors (length (now «edge_u»)) (now free) (now live) (now bits) ⌝ }
-    ensures answers { λ r. ⌜ r ≡ checkShotsOf (graphIn detectors observables (now («edge_u» .entry)) (now («edge_v» .entry)) (now («edge_weight» .entry)) (now («edge_obs» .entry))) (now (rows .entry)) (below shots) ⌝ }
-    ensures rows { λ _. ⌜ now (out .exit) ≡ rowsOf (graphIn detectors observables (now («edge_u» .entry)) (now («edge_v» .entry)) (now («edge_weight» .entry)) (now («edge_obs» .entry))) (now (rows .entry)) (below shots) (now (out .entry)) ⌝ }
-{
-    let edges = edge_u.len();
-    let words = bits::words(edges);
-    resets::reset_marks(detectors, edges, free, live, bits);
-    batch_rows::decode_rows(
-        detectors,
-        observables,
-        edge_u,
-        edge_v,
-        edge_weight,
-        edge_obs,
-        adj_offsets,
-        adj_edge,
-        adj_far,
-        rows,
-        shots,
-        out,
-        list,
-        defects,
-        seen,
-        active,
-        front,
-        touched,
-        cnt,
-        fresh,
-        order_edge,
-        order_parent,
-        lit,
-        growth,
-        sat,
-        known,
-        parent,
-        odd,
-        boundary_edge,
-        hot,
-        &mut free[0..detectors],
-        &mut live[0..detectors],
-        &mut bits[0..words],
-    )
-}
-
-// Those of clusters, and then those of marks. Long for its parameters, one a line.
+// The tables of clusters put to rest. Long for its parameters, one a line.
 fn decode_clusters(
     parent: &mut [u32],
     odd: &mut [bool],
     boundary_edge: &mut [u32],
     hot: &mut [bool],
+    free: &mut [bool],
     out: &mut [u64],
     list: &mut [u32],
     defects: &mut [u32],
@@ -116,9 +32,6 @@ fn decode_clusters(
     growth: &mut [f64],
     sat: &mut [bool],
     known: &mut [bool],
-    free: &mut [bool],
-    live: &mut [bool],
-    bits: &mut [u64],
     detectors: usize,
     observables: usize,
     edge_u: &[u32],
@@ -135,13 +48,12 @@ fn decode_clusters(
     requires { ⌜ GivenRows detectors observables shots (now rows) (now out) (now list) ⌝ }
     requires { ⌜ Places detectors (length (now «edge_u»)) (now defects) (now seen) (now active) (now front) (now touched) (now cnt) (now fresh) (now «order_edge») (now «order_parent») ⌝ }
     requires { ⌜ GrowthRest detectors (length (now «edge_u»)) (now lit) (now growth) (now sat) (now known) ⌝ }
-    requires { ⌜ ClusterSpaces detectors (now parent) (now odd) (now «boundary_edge») (now hot) ⌝ }
-    requires { ⌜ MarkSpaces detectors (length (now «edge_u»)) (now free) (now live) (now bits) ⌝ }
+    requires { ⌜ ClusterSpaces detectors (now parent) (now odd) (now «boundary_edge») (now hot) (now free) ⌝ }
     ensures answers { λ r. ⌜ r ≡ checkShotsOf (graphIn detectors observables (now («edge_u» .entry)) (now («edge_v» .entry)) (now («edge_weight» .entry)) (now («edge_obs» .entry))) (now (rows .entry)) (below shots) ⌝ }
     ensures rows { λ _. ⌜ now (out .exit) ≡ rowsOf (graphIn detectors observables (now («edge_u» .entry)) (now («edge_v» .entry)) (now («edge_weight» .entry)) (now («edge_obs» .entry))) (now (rows .entry)) (below shots) (now (out .entry)) ⌝ }
 {
-    resets::reset_clusters(detectors, parent, odd, boundary_edge, hot);
-    decode_marks(
+    resets::reset_clusters(detectors, parent, odd, boundary_edge, hot, free);
+    batch_rows::decode_rows(
         detectors,
         observables,
         edge_u,
@@ -172,13 +84,11 @@ fn decode_clusters(
         &mut odd[0..detectors],
         &mut boundary_edge[0..detectors],
         &mut hot[0..detectors],
-        free,
-        live,
-        bits,
+        &mut free[0..detectors],
     )
 }
 
-// Those of growth, and then the others. Long for its parameters, one a line.
+// Those of growth, and then those of clusters. Long for its parameters, one a line.
 fn decode_growth(
     lit: &mut [bool],
     growth: &mut [f64],
@@ -200,8 +110,6 @@ fn decode_growth(
     boundary_edge: &mut [u32],
     hot: &mut [bool],
     free: &mut [bool],
-    live: &mut [bool],
-    bits: &mut [u64],
     detectors: usize,
     observables: usize,
     edge_u: &[u32],
@@ -218,8 +126,7 @@ fn decode_growth(
     requires { ⌜ GivenRows detectors observables shots (now rows) (now out) (now list) ⌝ }
     requires { ⌜ Places detectors (length (now «edge_u»)) (now defects) (now seen) (now active) (now front) (now touched) (now cnt) (now fresh) (now «order_edge») (now «order_parent») ⌝ }
     requires { ⌜ GrowthSpaces detectors (length (now «edge_u»)) (now lit) (now growth) (now sat) (now known) ⌝ }
-    requires { ⌜ ClusterSpaces detectors (now parent) (now odd) (now «boundary_edge») (now hot) ⌝ }
-    requires { ⌜ MarkSpaces detectors (length (now «edge_u»)) (now free) (now live) (now bits) ⌝ }
+    requires { ⌜ ClusterSpaces detectors (now parent) (now odd) (now «boundary_edge») (now hot) (now free) ⌝ }
     ensures answers { λ r. ⌜ r ≡ checkShotsOf (graphIn detectors observables (now («edge_u» .entry)) (now («edge_v» .entry)) (now («edge_weight» .entry)) (now («edge_obs» .entry))) (now (rows .entry)) (below shots) ⌝ }
     ensures rows { λ _. ⌜ now (out .exit) ≡ rowsOf (graphIn detectors observables (now («edge_u» .entry)) (now («edge_v» .entry)) (now («edge_weight» .entry)) (now («edge_obs» .entry))) (now (rows .entry)) (below shots) (now (out .entry)) ⌝ }
 {
@@ -230,6 +137,7 @@ fn decode_growth(
         odd,
         boundary_edge,
         hot,
+        free,
         out,
         list,
         defects,
@@ -245,9 +153,6 @@ fn decode_growth(
         &mut growth[0..edges],
         &mut sat[0..edges],
         &mut known[0..detectors],
-        free,
-        live,
-        bits,
         detectors,
         observables,
         edge_u,
@@ -284,8 +189,6 @@ pub fn decode_parts(
     boundary_edge: &mut [u32],
     hot: &mut [bool],
     free: &mut [bool],
-    live: &mut [bool],
-    bits: &mut [u64],
     detectors: usize,
     observables: usize,
     edges: usize,
@@ -303,8 +206,7 @@ pub fn decode_parts(
     requires { ⌜ GivenRows detectors observables shots (now rows) (now out) (now list) ⌝ }
     requires { ⌜ Places detectors edges (now defects) (now seen) (now active) (now front) (now touched) (now cnt) (now fresh) (now «order_edge») (now «order_parent») ⌝ }
     requires { ⌜ GrowthSpaces detectors edges (now lit) (now growth) (now sat) (now known) ⌝ }
-    requires { ⌜ ClusterSpaces detectors (now parent) (now odd) (now «boundary_edge») (now hot) ⌝ }
-    requires { ⌜ MarkSpaces detectors edges (now free) (now live) (now bits) ⌝ }
+    requires { ⌜ ClusterSpaces detectors (now parent) (now odd) (now «boundary_edge») (now hot) (now free) ⌝ }
     ensures answers { λ r. ⌜ r ≡ checkShotsOf (graphOf detectors observables edges (now («edge_u» .entry)) (now («edge_v» .entry)) (now («edge_weight» .entry)) (now («edge_obs» .entry))) (now (rows .entry)) (below shots) ⌝ }
     ensures rows { λ _. ⌜ now (out .exit) ≡ rowsOf (graphOf detectors observables edges (now («edge_u» .entry)) (now («edge_v» .entry)) (now («edge_weight» .entry)) (now («edge_obs» .entry))) (now (rows .entry)) (below shots) (now (out .entry)) ⌝ }
 {
@@ -331,8 +233,6 @@ pub fn decode_parts(
         boundary_edge,
         hot,
         free,
-        live,
-        bits,
         detectors,
         observables,
         &edge_u[0..edges],

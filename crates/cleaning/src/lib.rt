@@ -1,44 +1,12 @@
-// Tables at rest: all of them before the first shot, and after a shot what it has changed, at the cost of the detectors seen and their edges.
+// What a shot has changed, put to rest at the cost of the detectors seen and their edges.
 ghost use Prim.Native.Nat.{ℕ, _+_, _<_, _≤_};
 ghost use mathlib.Core.Path.{_≡_};
 ghost use lib.ListN.{length, getD, take};
 ghost use lib.Seq.{slice};
 ghost use Rattle.growth_state.specs.Rep.{Used};
-ghost use Rattle.cleaning.specs.Clean.{Sizes, Clean, Stretch, Cleared, Cleaning};
+ghost use Rattle.cleaning.specs.Clean.{Clean, Stretch, Cleared, Cleaning};
 
 const BOUNDARY: u32 = 4294967295;
-
-// Every table is at rest, whatever it held.
-pub fn reset_all(
-    d: usize,
-    edges: usize,
-    lit: &mut [bool],
-    growth: &mut [f64],
-    sat: &mut [bool],
-    known: &mut [bool],
-    parent: &mut [u32],
-    odd: &mut [bool],
-    boundary_edge: &mut [u32],
-    hot: &mut [bool],
-    free: &mut [bool],
-    live: &mut [bool],
-    bits: &mut [u64],
-)
-    requires { ⌜ Sizes d edges (now lit) (now growth) (now sat) (now known) (now parent) (now odd) (now «boundary_edge») (now hot) (now free) (now live) (now bits) ⌝ }
-    ensures { λ _. ⌜ Clean d edges (now (lit .exit)) (now (growth .exit)) (now (sat .exit)) (now (known .exit)) (now (parent .exit)) (now (odd .exit)) (now («boundary_edge» .exit)) (now (hot .exit)) (now (free .exit)) (now (live .exit)) (now (bits .exit)) ⌝ }
-{
-    fills::fill_bool(lit, false);
-    fills::fill_f64(growth, 0.0);
-    fills::fill_bool(sat, false);
-    fills::fill_bool(known, false);
-    fills::fill_numbers(parent);
-    fills::fill_bool(odd, false);
-    fills::fill_u32(boundary_edge, BOUNDARY);
-    fills::fill_bool(hot, false);
-    fills::fill_bool(free, false);
-    fills::fill_bool(live, false);
-    fills::fill_u64(bits, 0);
-}
 
 // The edges listed from start to end have neither grown nor saturated.
 pub fn clean_edges(adj_edge: &[u32], start: usize, end: usize, growth: &mut [f64], sat: &mut [bool])
@@ -73,12 +41,10 @@ pub fn clean(
     boundary_edge: &mut [u32],
     hot: &mut [bool],
     free: &mut [bool],
-    live: &mut [bool],
-    bits: &[u64],
 )
-    requires { ⌜ Cleaning d (now «edge_u») (now «edge_v») (now «adj_offsets») (now «adj_edge») (now far) (now seen) n (now bits) ⌝ }
-    requires { ⌜ Used d (now «edge_u») (now «edge_v») (take n (now seen)) (now lit) (now growth) (now sat) (now known) (now parent) (now odd) (now «boundary_edge») (now hot) (now free) (now live) ⌝ }
-    ensures { λ _. ⌜ Clean d (length (now («edge_u» .entry))) (now (lit .exit)) (now (growth .exit)) (now (sat .exit)) (now (known .exit)) (now (parent .exit)) (now (odd .exit)) (now («boundary_edge» .exit)) (now (hot .exit)) (now (free .exit)) (now (live .exit)) (now (bits .entry)) ⌝ }
+    requires { ⌜ Cleaning d (now «edge_u») (now «edge_v») (now «adj_offsets») (now «adj_edge») (now far) (now seen) n ⌝ }
+    requires { ⌜ Used d (now «edge_u») (now «edge_v») (take n (now seen)) (now lit) (now growth) (now sat) (now known) (now parent) (now odd) (now «boundary_edge») (now hot) (now free) ⌝ }
+    ensures { λ _. ⌜ Clean d (length (now («edge_u» .entry))) (now (lit .exit)) (now (growth .exit)) (now (sat .exit)) (now (known .exit)) (now (parent .exit)) (now (odd .exit)) (now («boundary_edge» .exit)) (now (hot .exit)) (now (free .exit)) ⌝ }
 {
     let mut i = 0;
     while i < n {
@@ -92,7 +58,6 @@ pub fn clean(
         boundary_edge[k] = BOUNDARY;
         hot[k] = false;
         free[k] = false;
-        live[k] = false;
         let start = adj_offsets[k] as usize;
         let end = adj_offsets[k + 1] as usize;
         clean_edges(adj_edge, start, end, growth, sat);

@@ -1,9 +1,8 @@
 // What a saturated edge does: its ends are seen, and its clusters are one or have an exit.
-ghost use Prim.Native.Nat.{ℕ, zero, suc, _+_, _*_, _<_, _≤_, min};
+ghost use Prim.Native.Nat.{_+_, _<_, min};
 ghost use mathlib.Core.Path.{_≡_};
-ghost use mathlib.Core.Bool.{Bool, true, false, xor};
-ghost use lib.ListN.{length, getD, set, take};
-ghost use Rattle.forest.specs.Forest.{Down};
+ghost use mathlib.Core.Bool.{true, xor};
+ghost use lib.ListN.{length, take};
 ghost use Rattle.clusters.specs.Joins.{Listed, Activated, Linked, Joining, Joined, Leaving, Left, Ready, Saturated, Merging, Merged};
 
 const BOUNDARY: u32 = 4294967295;

@@ -15,6 +15,7 @@ use Rattle.bits.specs.Rows.{words}
 use Rattle.packed.specs.Packed.{rowAt}
 use Rattle.steps.specs.Graph.{Ends}
 use Rattle.steps.specs.Call.{graphOf}
+use Rattle.found.proofs.Accepted.{accepted-weights}
 use Rattle.adjacency.specs.Adjacent.{plain, Sized, Adjacent}
 use Rattle.scratch.specs.declared.Lengths.{Lengths}
 use Rattle.scratch.specs.Scratch.{lengthsOf, scratchLong}
@@ -34,20 +35,20 @@ use Rattle.decoder.specs.Parts.{adjLong, cleanLong, restLong}
 pub adj-tests : (d n off adj far : ℕ) {r1 r2 r3 : Bool} → r1 ≡ (leb n (far / 2) && true) → r2 ≡ (leb n (adj / 2) && r1) → r3 ≡ (ltb d off && r2) → r3 ≡ adjLong d n off adj far
 adj-tests d n off adj far p1 p2 p3 = rw (p3, p2, p1, past d off, half n adj, half n far, and-true (leb (2 * n) far)) refl
 
-pub clean-tests : (d n w lit growth sat known parent odd exit hot free live bits : ℕ) {r1 r2 r3 r4 r5 r6 r7 r8 r9 r10 r11 : Bool} → w ≡ words n
-    → r1 ≡ (leb w bits && true) → r2 ≡ (leb d live && r1) → r3 ≡ (leb d free && r2) → r4 ≡ (leb d hot && r3) → r5 ≡ (leb d exit && r4) → r6 ≡ (leb d odd && r5)
-    → r7 ≡ (leb d parent && r6) → r8 ≡ (leb d known && r7) → r9 ≡ (leb n sat && r8) → r10 ≡ (leb n growth && r9) → r11 ≡ (leb d lit && r10)
-    → r11 ≡ cleanLong d n lit growth sat known parent odd exit hot free live bits
-clean-tests d n w lit growth sat known parent odd exit hot free live bits q p1 p2 p3 p4 p5 p6 p7 p8 p9 p10 p11 =
-    rw (p11, p10, p9, p8, p7, p6, p5, p4, p3, p2, p1, and-true (leb w bits), q) refl
+pub clean-tests : (d n lit growth sat known parent odd exit hot free : ℕ) {r1 r2 r3 r4 r5 r6 r7 r8 r9 : Bool}
+    → r1 ≡ (leb d free && true) → r2 ≡ (leb d hot && r1) → r3 ≡ (leb d exit && r2) → r4 ≡ (leb d odd && r3) → r5 ≡ (leb d parent && r4)
+    → r6 ≡ (leb d known && r5) → r7 ≡ (leb n sat && r6) → r8 ≡ (leb n growth && r7) → r9 ≡ (leb d lit && r8)
+    → r9 ≡ cleanLong d n lit growth sat known parent odd exit hot free
+clean-tests d n lit growth sat known parent odd exit hot free p1 p2 p3 p4 p5 p6 p7 p8 p9 =
+    rw (p9, p8, p7, p6, p5, p4, p3, p2, p1, and-true (leb d free)) refl
 
 pub rest-tests : (d o n w row list off adj far defects seen active front touched cnt fresh oe op : ℕ) (rest : Bool) {r1 r2 r3 r4 r5 r6 r7 r8 r9 r10 r11 r12 r13 r14 : Bool} → w ≡ words o
-    → r1 ≡ (leb d op && rest) → r2 ≡ (leb d oe && r1) → r3 ≡ (leb n fresh && r2) → r4 ≡ (leb n cnt && r3) → r5 ≡ (leb n touched && r4) → r6 ≡ (leb d front && r5)
+    → r1 ≡ (leb d op && rest) → r2 ≡ (leb d oe && r1) → r3 ≡ (leb n fresh && r2) → r4 ≡ (ltb n cnt && r3) → r5 ≡ (ltb n touched && r4) → r6 ≡ (leb d front && r5)
     → r7 ≡ (leb d active && r6) → r8 ≡ (leb d seen && r7) → r9 ≡ (leb d defects && r8) → r10 ≡ (leb n (far / 2) && r9) → r11 ≡ (leb n (adj / 2) && r10) → r12 ≡ (ltb d off && r11)
     → r13 ≡ (leb d list && r12) → r14 ≡ (leb w row && r13)
     → r14 ≡ restLong d o n row list off adj far defects seen active front touched cnt fresh oe op rest
 rest-tests d o n w row list off adj far defects seen active front touched cnt fresh oe op rest q p1 p2 p3 p4 p5 p6 p7 p8 p9 p10 p11 p12 p13 p14 =
-    rw (p14, p13, p12, p11, p10, p9, p8, p7, p6, p5, p4, p3, p2, p1, past d off, half n adj, half n far, q) refl
+    rw (p14, p13, p12, p11, p10, p9, p8, p7, p6, p5, p4, p3, p2, p1, past d off, past n touched, past n cnt, half n adj, half n far, q) refl
 
 -- ---- what is long
 
@@ -102,6 +103,7 @@ module _ {d o n : ℕ} {u v : List ℕ} {weight : List Float} {obs : List ℕ} {
   pub wide : (off adj far : List ℕ) → d + 1 ≤ length off → 2 * n ≤ length adj → 2 * n ≤ length far → AdjacentParts d n u v off adj far → Wide d o n u v weight obs off adj far
   wide off adj far p q r t = record {
     ends = a .ends;
+    fits = accepted-weights (graphOf d o n u v weight obs) (a .graph);
     firsts = a .u-long;
     others = a .v-long;
     weights = a .weight-long;
@@ -129,8 +131,8 @@ module _ {d o n : ℕ} {u v : List ℕ} {weight : List Float} {obs : List ℕ} {
 
 -- ---- the scratch
 
-module _ {d n : ℕ} (off adj far defects seen active front touched cnt fresh oe op : List ℕ) (lit : List Bool) (growth : List Float) (sat known : List Bool) (parent : List ℕ) (odd : List Bool) (exit : List ℕ) (hot free live : List Bool) (bits : List ℕ)
-    (k : Long d n (lengthsOf (length off) (length adj) (length far) (length defects) (length seen) (length active) (length front) (length touched) (length cnt) (length fresh) (length oe) (length op) (length lit) (length growth) (length sat) (length known) (length parent) (length odd) (length exit) (length hot) (length free) (length live) (length bits))) where
+module _ {d n : ℕ} (off adj far defects seen active front touched cnt fresh oe op : List ℕ) (lit : List Bool) (growth : List Float) (sat known : List Bool) (parent : List ℕ) (odd : List Bool) (exit : List ℕ) (hot free : List Bool)
+    (k : Long d n (lengthsOf (length off) (length adj) (length far) (length defects) (length seen) (length active) (length front) (length touched) (length cnt) (length fresh) (length oe) (length op) (length lit) (length growth) (length sat) (length known) (length parent) (length odd) (length exit) (length hot) (length free))) where
   pub places : Places d n defects seen active front touched cnt fresh oe op
   places = record {
     lit-ones = k .defects;
@@ -144,7 +146,7 @@ module _ {d n : ℕ} (off adj far defects seen active front touched cnt fresh oe
     parents = k .order-parent;
   }
 
-  pub spaces : Spaces d n lit growth sat known parent odd exit hot free live bits
+  pub spaces : Spaces d n lit growth sat known parent odd exit hot free
   spaces = record {
     lits = k .lit;
     growths = k .growth;
@@ -155,8 +157,6 @@ module _ {d n : ℕ} (off adj far defects seen active front touched cnt fresh oe
     exits = k .boundary-edge;
     hots = k .hot;
     frees = k .free;
-    lives = k .live;
-    marks = k .bits;
   }
 
 -- the tables written are the first entries of those lent

@@ -32,14 +32,10 @@ fn clean_long(
     boundary_edge: usize,
     hot: usize,
     free: usize,
-    live: usize,
-    bits: usize,
 ) -> bool
-    ensures { λ r. ⌜ r ≡ cleanLong detectors edges lit growth sat known parent odd «boundary_edge» hot free live bits ⌝ }
+    ensures { λ r. ⌜ r ≡ cleanLong detectors edges lit growth sat known parent odd «boundary_edge» hot free ⌝ }
 {
-    let mut long = scratch::fits(bits::words(edges), bits, true);
-    long = scratch::fits(detectors, live, long);
-    long = scratch::fits(detectors, free, long);
+    let mut long = scratch::fits(detectors, free, true);
     long = scratch::fits(detectors, hot, long);
     long = scratch::fits(detectors, boundary_edge, long);
     long = scratch::fits(detectors, odd, long);
@@ -77,8 +73,8 @@ fn own_long(
     let mut long = scratch::fits(detectors, order_parent, rest);
     long = scratch::fits(detectors, order_edge, long);
     long = scratch::fits(edges, fresh, long);
-    long = scratch::fits(edges, cnt, long);
-    long = scratch::fits(edges, touched, long);
+    long = scratch::fits_past(edges, cnt, long);
+    long = scratch::fits_past(edges, touched, long);
     long = scratch::fits(detectors, front, long);
     long = scratch::fits(detectors, active, long);
     long = scratch::fits(detectors, seen, long);
@@ -170,8 +166,6 @@ fn decode_checked(
     boundary_edge: &mut [u32],
     hot: &mut [bool],
     free: &mut [bool],
-    live: &mut [bool],
-    bits: &mut [u64],
     detectors: usize,
     observables: usize,
     edges: usize,
@@ -187,8 +181,8 @@ fn decode_checked(
     long: bool,
 ) -> Answer
     requires { ⌜ (checkCall (lentOf detectors observables edges (now «edge_u») (now «edge_v») (now «edge_weight») (now «edge_obs»)) (adjLong detectors edges (length (now «adj_offsets»)) (length (now «adj_edge»)) (length (now «adj_far»))) (now shot) 1 width ≡ Accepted → AdjacentParts detectors edges (now «edge_u») (now «edge_v») (now «adj_offsets») (now «adj_edge») (now «adj_far»)) ⌝ }
-    requires { ⌜ long ≡ cleanLong detectors edges (length (now lit)) (length (now growth)) (length (now sat)) (length (now known)) (length (now parent)) (length (now odd)) (length (now «boundary_edge»)) (length (now hot)) (length (now free)) (length (now live)) (length (now bits)) ⌝ }
-    ensures { λ r. ⌜ Decodes (handed (lentOf detectors observables edges (now («edge_u» .entry)) (now («edge_v» .entry)) (now («edge_weight» .entry)) (now («edge_obs» .entry))) (now (shot .entry)) width (now (row .entry)) (now (list .entry)) (lengthsOf (length (now («adj_offsets» .entry))) (length (now («adj_edge» .entry))) (length (now («adj_far» .entry))) (length (now (defects .entry))) (length (now (seen .entry))) (length (now (active .entry))) (length (now (front .entry))) (length (now (touched .entry))) (length (now (cnt .entry))) (length (now (fresh .entry))) (length (now («order_edge» .entry))) (length (now («order_parent» .entry))) (length (now (lit .entry))) (length (now (growth .entry))) (length (now (sat .entry))) (length (now (known .entry))) (length (now (parent .entry))) (length (now (odd .entry))) (length (now («boundary_edge» .entry))) (length (now (hot .entry))) (length (now (free .entry))) (length (now (live .entry))) (length (now (bits .entry))))) r (now (list .exit)) (now (row .exit)) ⌝ }
+    requires { ⌜ long ≡ cleanLong detectors edges (length (now lit)) (length (now growth)) (length (now sat)) (length (now known)) (length (now parent)) (length (now odd)) (length (now «boundary_edge»)) (length (now hot)) (length (now free)) ⌝ }
+    ensures { λ r. ⌜ Decodes (handed (lentOf detectors observables edges (now («edge_u» .entry)) (now («edge_v» .entry)) (now («edge_weight» .entry)) (now («edge_obs» .entry))) (now (shot .entry)) width (now (row .entry)) (now (list .entry)) (lengthsOf (length (now («adj_offsets» .entry))) (length (now («adj_edge» .entry))) (length (now («adj_far» .entry))) (length (now (defects .entry))) (length (now (seen .entry))) (length (now (active .entry))) (length (now (front .entry))) (length (now (touched .entry))) (length (now (cnt .entry))) (length (now (fresh .entry))) (length (now («order_edge» .entry))) (length (now («order_parent» .entry))) (length (now (lit .entry))) (length (now (growth .entry))) (length (now (sat .entry))) (length (now (known .entry))) (length (now (parent .entry))) (length (now (odd .entry))) (length (now («boundary_edge» .entry))) (length (now (hot .entry))) (length (now (free .entry))))) r (now (list .exit)) (now (row .exit)) ⌝ }
 {
     let own = own_long(
         detectors,
@@ -258,8 +252,6 @@ fn decode_checked(
         boundary_edge,
         hot,
         free,
-        live,
-        bits,
     );
     answer_of(found)
 }
@@ -286,8 +278,6 @@ fn decode_tabled(
     boundary_edge: &mut [u32],
     hot: &mut [bool],
     free: &mut [bool],
-    live: &mut [bool],
-    bits: &mut [u64],
     detectors: usize,
     observables: usize,
     edges: usize,
@@ -302,7 +292,7 @@ fn decode_tabled(
     width: usize,
 ) -> Answer
     requires { ⌜ (checkCall (lentOf detectors observables edges (now «edge_u») (now «edge_v») (now «edge_weight») (now «edge_obs»)) (adjLong detectors edges (length (now «adj_offsets»)) (length (now «adj_edge»)) (length (now «adj_far»))) (now shot) 1 width ≡ Accepted → AdjacentParts detectors edges (now «edge_u») (now «edge_v») (now «adj_offsets») (now «adj_edge») (now «adj_far»)) ⌝ }
-    ensures { λ r. ⌜ Decodes (handed (lentOf detectors observables edges (now («edge_u» .entry)) (now («edge_v» .entry)) (now («edge_weight» .entry)) (now («edge_obs» .entry))) (now (shot .entry)) width (now (row .entry)) (now (list .entry)) (lengthsOf (length (now («adj_offsets» .entry))) (length (now («adj_edge» .entry))) (length (now («adj_far» .entry))) (length (now (defects .entry))) (length (now (seen .entry))) (length (now (active .entry))) (length (now (front .entry))) (length (now (touched .entry))) (length (now (cnt .entry))) (length (now (fresh .entry))) (length (now («order_edge» .entry))) (length (now («order_parent» .entry))) (length (now (lit .entry))) (length (now (growth .entry))) (length (now (sat .entry))) (length (now (known .entry))) (length (now (parent .entry))) (length (now (odd .entry))) (length (now («boundary_edge» .entry))) (length (now (hot .entry))) (length (now (free .entry))) (length (now (live .entry))) (length (now (bits .entry))))) r (now (list .exit)) (now (row .exit)) ⌝ }
+    ensures { λ r. ⌜ Decodes (handed (lentOf detectors observables edges (now («edge_u» .entry)) (now («edge_v» .entry)) (now («edge_weight» .entry)) (now («edge_obs» .entry))) (now (shot .entry)) width (now (row .entry)) (now (list .entry)) (lengthsOf (length (now («adj_offsets» .entry))) (length (now («adj_edge» .entry))) (length (now («adj_far» .entry))) (length (now (defects .entry))) (length (now (seen .entry))) (length (now (active .entry))) (length (now (front .entry))) (length (now (touched .entry))) (length (now (cnt .entry))) (length (now (fresh .entry))) (length (now («order_edge» .entry))) (length (now («order_parent» .entry))) (length (now (lit .entry))) (length (now (growth .entry))) (length (now (sat .entry))) (length (now (known .entry))) (length (now (parent .entry))) (length (now (odd .entry))) (length (now («boundary_edge» .entry))) (length (now (hot .entry))) (length (now (free .entry))))) r (now (list .exit)) (now (row .exit)) ⌝ }
 {
     let long = clean_long(
         detectors,
@@ -316,8 +306,6 @@ fn decode_tabled(
         boundary_edge.len(),
         hot.len(),
         free.len(),
-        live.len(),
-        bits.len(),
     );
     decode_checked(
         row,
@@ -340,8 +328,6 @@ fn decode_tabled(
         boundary_edge,
         hot,
         free,
-        live,
-        bits,
         detectors,
         observables,
         edges,
@@ -386,8 +372,6 @@ pub fn decode_shot(
     boundary_edge: &mut [u32],
     hot: &mut [bool],
     free: &mut [bool],
-    live: &mut [bool],
-    bits: &mut [u64],
     edge_u: &[u32],
     edge_v: &[u32],
     edge_weight: &[f64],
@@ -395,7 +379,7 @@ pub fn decode_shot(
     shot: &[u64],
     width: usize,
 ) -> Answer
-    ensures { λ r. ⌜ Decodes (handed (lentOf detectors observables edges (now («edge_u» .entry)) (now («edge_v» .entry)) (now («edge_weight» .entry)) (now («edge_obs» .entry))) (now (shot .entry)) width (now (row .entry)) (now (list .entry)) (lengthsOf (length (now («adj_offsets» .entry))) (length (now («adj_edge» .entry))) (length (now («adj_far» .entry))) (length (now (defects .entry))) (length (now (seen .entry))) (length (now (active .entry))) (length (now (front .entry))) (length (now (touched .entry))) (length (now (cnt .entry))) (length (now (fresh .entry))) (length (now («order_edge» .entry))) (length (now («order_parent» .entry))) (length (now (lit .entry))) (length (now (growth .entry))) (length (now (sat .entry))) (length (now (known .entry))) (length (now (parent .entry))) (length (now (odd .entry))) (length (now («boundary_edge» .entry))) (length (now (hot .entry))) (length (now (free .entry))) (length (now (live .entry))) (length (now (bits .entry))))) r (now (list .exit)) (now (row .exit)) ⌝ }
+    ensures { λ r. ⌜ Decodes (handed (lentOf detectors observables edges (now («edge_u» .entry)) (now («edge_v» .entry)) (now («edge_weight» .entry)) (now («edge_obs» .entry))) (now (shot .entry)) width (now (row .entry)) (now (list .entry)) (lengthsOf (length (now («adj_offsets» .entry))) (length (now («adj_edge» .entry))) (length (now («adj_far» .entry))) (length (now (defects .entry))) (length (now (seen .entry))) (length (now (active .entry))) (length (now (front .entry))) (length (now (touched .entry))) (length (now (cnt .entry))) (length (now (fresh .entry))) (length (now («order_edge» .entry))) (length (now («order_parent» .entry))) (length (now (lit .entry))) (length (now (growth .entry))) (length (now (sat .entry))) (length (now (known .entry))) (length (now (parent .entry))) (length (now (odd .entry))) (length (now («boundary_edge» .entry))) (length (now (hot .entry))) (length (now (free .entry))))) r (now (list .exit)) (now (row .exit)) ⌝ }
 {
     tabulate(
         detectors,
@@ -432,8 +416,6 @@ pub fn decode_shot(
         boundary_edge,
         hot,
         free,
-        live,
-        bits,
         detectors,
         observables,
         edges,

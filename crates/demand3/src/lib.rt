@@ -91,8 +91,6 @@ pub fn decode_and_mark(
     boundary_edge: &mut [u32],
     hot: &mut [bool],
     free: &mut [bool],
-    live: &mut [bool],
-    bits: &mut [u64],
     detectors: usize,
     observables: usize,
     edges: usize,
@@ -103,7 +101,7 @@ pub fn decode_and_mark(
     shot: &[u64],
     width: usize,
 ) -> Verdict
-    ensures { λ v. ⌜ Verified (handed (lentOf detectors observables edges (now («edge_u» .entry)) (now («edge_v» .entry)) (now («edge_weight» .entry)) (now («edge_obs» .entry))) (now (shot .entry)) width (now (row .entry)) (now (list .entry)) (lengthsOf (length (now («adj_offsets» .entry))) (length (now («adj_edge» .entry))) (length (now («adj_far» .entry))) (length (now (defects .entry))) (length (now (seen .entry))) (length (now (active .entry))) (length (now (front .entry))) (length (now (touched .entry))) (length (now (cnt .entry))) (length (now (fresh .entry))) (length (now («order_edge» .entry))) (length (now («order_parent» .entry))) (length (now (lit .entry))) (length (now (growth .entry))) (length (now (sat .entry))) (length (now (known .entry))) (length (now (parent .entry))) (length (now (odd .entry))) (length (now («boundary_edge» .entry))) (length (now (hot .entry))) (length (now (free .entry))) (length (now (live .entry))) (length (now (bits .entry))))) v (now (list .exit)) (now (row .exit)) ⌝ }
+    ensures { λ v. ⌜ Verified (handed (lentOf detectors observables edges (now («edge_u» .entry)) (now («edge_v» .entry)) (now («edge_weight» .entry)) (now («edge_obs» .entry))) (now (shot .entry)) width (now (row .entry)) (now (list .entry)) (lengthsOf (length (now («adj_offsets» .entry))) (length (now («adj_edge» .entry))) (length (now («adj_far» .entry))) (length (now (defects .entry))) (length (now (seen .entry))) (length (now (active .entry))) (length (now (front .entry))) (length (now (touched .entry))) (length (now (cnt .entry))) (length (now (fresh .entry))) (length (now («order_edge» .entry))) (length (now («order_parent» .entry))) (length (now (lit .entry))) (length (now (growth .entry))) (length (now (sat .entry))) (length (now (known .entry))) (length (now (parent .entry))) (length (now (odd .entry))) (length (now («boundary_edge» .entry))) (length (now (hot .entry))) (length (now (free .entry))))) v (now (list .exit)) (now (row .exit)) ⌝ }
 {
     mark_answer(
         decoder::decode_shot(
@@ -133,8 +131,6 @@ pub fn decode_and_mark(
             boundary_edge,
             hot,
             free,
-            live,
-            bits,
             edge_u,
             edge_v,
             edge_weight,

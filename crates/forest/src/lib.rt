@@ -2,7 +2,7 @@
 ghost use Prim.Native.Nat.{_<_, _^_};
 ghost use mathlib.Core.Path.{_≡_};
 ghost use lib.ListN.{getD};
-ghost use Rattle.forest.specs.Forest.{Down, Found, Joined, labels};
+ghost use Rattle.forest.specs.Forest.{Down, Found, Compressed, Joined, labels};
 
 // The lowest vertex of v's cluster. Each step points v at its grandparent.
 pub fn find(d: usize, parent: &mut [u32], v: usize) -> usize
@@ -25,7 +25,7 @@ pub fn find(d: usize, parent: &mut [u32], v: usize) -> usize
 pub fn compress(d: usize, parent: &mut [u32], v: usize) -> usize
     requires { ⌜ Down d (now parent) ⌝ }
     requires { ⌜ (v < d) × (d < 2 ^ 32) ⌝ }
-    ensures { λ r. ⌜ Found d (now (parent .entry)) (now (parent .exit)) v r ⌝ }
+    ensures { λ r. ⌜ Compressed d (now (parent .entry)) (now (parent .exit)) v r ⌝ }
 {
     let r = find(d, parent, v);
     parent[v] = r as u32;

@@ -17,6 +17,8 @@ use Rattle.lists.proofs.Members.{length-below, getD-below}
 use Rattle.lists.proofs.Counts.{trues, trues-all, Below, trues-lt, in-range}
 use Rattle.found.proofs.Rounds.{Kept}
 use Rattle.found.proofs.Moves.{progress, stuck-is}
+use Rattle.growth_laws.specs.Laws.{Fit}
+use Rattle.growth_laws.proofs.Rooms.{Rooms, rooms-next}
 use Rattle.growth_state.specs.Rep.{stateOf, Rep}
 use Rattle.growth_state.proofs.Laws.{member-take}
 use Rattle.growth_state.proofs.Unseen.{used-of}
@@ -28,8 +30,8 @@ use Rattle.growth.specs.Grow.{answerOf, Grew}
 
 -- the state is the one that the tables hold
 pub rep-own : {g : Graph} {lit : List Bool} {s : State} {growth : List Float} {sat : List Bool} {parent active : List ℕ} {a : ℕ} {odd : List Bool} {exit : List ℕ} {known : List Bool} {seen : List ℕ} {n : ℕ}
-    {hot free live : List Bool} {bits : List ℕ} → Rep g lit s growth sat parent active a odd exit known seen n hot free live bits
-    → Rep g lit (stateOf (g .detectors) growth sat parent active a) growth sat parent active a odd exit known seen n hot free live bits
+    {hot free : List Bool} → Rep g lit s growth sat parent active a odd exit known seen n hot free
+    → Rep g lit (stateOf (g .detectors) growth sat parent active a) growth sat parent active a odd exit known seen n hot free
 rep-own {g} {lit} r = record {
   state = refl;
   lits = r .lits;
@@ -119,8 +121,8 @@ none-of none q h = refl
 none-of (some x) q h = absurd (let k = h x refl in omega arith)
 
 module _ {d : ℕ} {us vs : List ℕ} {ws : List Float} (ok : Ends (weighted d us vs ws)) {lit : List Bool} {growth₀ : List Float} {sat : List Bool} {parent active : List ℕ} {a : ℕ} {odd : List Bool} {exit : List ℕ}
-    {known : List Bool} {seen : List ℕ} {n : ℕ} {hot free live : List Bool} {bits : List ℕ}
-    (rep : Rep (weighted d us vs ws) lit (stateOf d growth₀ sat parent active a) growth₀ sat parent active a odd exit known seen n hot free live bits)
+    {known : List Bool} {seen : List ℕ} {n : ℕ} {hot free : List Bool}
+    (rep : Rep (weighted d us vs ws) lit (stateOf d growth₀ sat parent active a) growth₀ sat parent active a odd exit known seen n hot free)
     (rounds : ℕ) (few : rounds ≤ trues sat) (so-far : grow (weighted d us vs ws) lit (suc (length us - rounds)) rounds (stateOf d growth₀ sat parent active a) (turn (weighted d us vs ws) lit (stateOf d growth₀ sat parent active a)) ≡ growth (weighted d us vs ws) lit) where
   abbrev g : Graph
   g = weighted d us vs ws
@@ -131,21 +133,20 @@ module _ {d : ℕ} {us vs : List ℕ} {ws : List Float} (ok : Ends (weighted d u
   pub rounds-few : rounds ≤ length us
   rounds-few = omega (arith, few, trues-all sat, rep .kept .sats)
 
-  pub settles : a ≡ 0 → Grew g lit 4294967295 rounds growth₀ sat parent active a odd exit known seen n hot free live bits
+  pub settles : a ≡ 0 → Grew g lit 4294967295 rounds growth₀ sat parent active a odd exit known seen n hot free
   settles z = record {
     answer = sym so-far ∙ grow-none g lit (length us - rounds) rounds s (ap (λ k. take k active) z);
     few = rounds-few;
     seens = rep .seens;
     settles = λ q. rep;
-    used = used-of g ok lit sat (labels d parent) (take a active) (rep .kept) known seen n (rep .seens) growth₀ parent odd exit hot free live
-        (rep .lits) (rep .growths) (rep .parents) refl (rep .clusters) (rep .calm) (rep .rest .hots) (rep .rest .hot-is) (rep .rest .frees) (λ r h f. rep .rest .none-free r) (rep .rest .lives) (rep .rest .none-live);
-    no-bits = rep .rest .no-bits;
+    used = used-of g ok lit sat (labels d parent) (take a active) (rep .kept) known seen n (rep .seens) growth₀ parent odd exit hot free
+        (rep .lits) (rep .growths) (rep .parents) refl (rep .clusters) (rep .calm) (rep .rest .hots) (rep .rest .hot-is) (rep .rest .frees) (λ r h f. rep .rest .none-free r);
   }
 
   module _ (some-active : 0 < a) {stuck′ : ℕ} {growth₁ : List Float} {sat₁ : List Bool} {parent₁ active₁ : List ℕ} {a₁ : ℕ} {odd₁ : List Bool} {exit₁ : List ℕ}
-      {known₁ : List Bool} {seen₁ : List ℕ} {n₁ : ℕ} {hot₁ free₁ live₁ : List Bool} {bits₁ : List ℕ}
-      (st : Stepped g lit s stuck′ growth₁ sat₁ parent₁ active₁ a₁ odd₁ exit₁ known₁ seen₁ n₁ hot₁ free₁ live₁ bits₁) where
-    pub gets-stuck : (stuck′ ≡ 4294967295 → ⊥) → Grew g lit stuck′ rounds growth₁ sat₁ parent₁ active₁ a₁ odd₁ exit₁ known₁ seen₁ n₁ hot₁ free₁ live₁ bits₁
+      {known₁ : List Bool} {seen₁ : List ℕ} {n₁ : ℕ} {hot₁ free₁ : List Bool}
+      (st : Stepped g lit s stuck′ growth₁ sat₁ parent₁ active₁ a₁ odd₁ exit₁ known₁ seen₁ n₁ hot₁ free₁) where
+    pub gets-stuck : (stuck′ ≡ 4294967295 → ⊥) → Grew g lit stuck′ rounds growth₁ sat₁ parent₁ active₁ a₁ odd₁ exit₁ known₁ seen₁ n₁ hot₁ free₁
     gets-stuck z =
         let (x, l, q) = cons-of active a some-active (rep .actives) in
         let h = found-of (firstStuck g lit s (take a active)) stuck′ (st .stuck-is) z in
@@ -155,7 +156,6 @@ module _ {d : ℕ} {us vs : List ℕ} {ws : List Float} (ok : Ends (weighted d u
           seens = st .held z .seens;
           settles = λ y. absurd (z y);
           used = st .held z .used;
-          no-bits = st .held z .no-bits;
         }
 
     module _ (free-all : stuck′ ≡ 4294967295) where
@@ -163,8 +163,11 @@ module _ {d : ℕ} {us vs : List ℕ} {ws : List Float} (ok : Ends (weighted d u
       none-stuck = none-of (firstStuck g lit s (take a active)) (sym (st .stuck-is) ∙ free-all)
           (λ y h. omega (arith, member-take (λ x. x < d) active a (rep .inside) y (stuck-is g lit s (take a active) y h .0), ok .small))
 
-      pub rep-on : Rep g lit (stateOf d growth₁ sat₁ parent₁ active₁ a₁) growth₁ sat₁ parent₁ active₁ a₁ odd₁ exit₁ known₁ seen₁ n₁ hot₁ free₁ live₁ bits₁
+      pub rep-on : Rep g lit (stateOf d growth₁ sat₁ parent₁ active₁ a₁) growth₁ sat₁ parent₁ active₁ a₁ odd₁ exit₁ known₁ seen₁ n₁ hot₁ free₁
       rep-on = rep-own (st .moved free-all)
+
+      pub rooms-on : Fit g → Rooms g s → Rooms g (stateOf d growth₁ sat₁ parent₁ active₁ a₁)
+      rooms-on fit k = subst (Rooms g) (st .moved free-all .state) (rooms-next g fit lit s k)
 
       sat-next : next g lit s .saturated ≡ sat₁
       sat-next = ap (λ (z : State). z .saturated) (st .moved free-all .state)

@@ -108,7 +108,7 @@ bounds n (inl q) = (omega arith, omega arith)
 bounds n (inr q) = (omega arith, omega arith)
 
 -- 1 and 2 are powers of 2
-by-power : (P : Float → Type 0) (n : ℕ) → OneOrTwo n → ((k : ℕ) → P (fin false 1 (pos k))) → P (ofInt binary64 (pos n))
+pub by-power : (P : Float → Type 0) (n : ℕ) → OneOrTwo n → ((k : ℕ) → P (fin false 1 (pos k))) → P (ofInt binary64 (pos n))
 unfolding ofInt
 by-power P n (inl q) f = rw q (f 0)
 by-power P n (inr q) f = rw q (f 1)

@@ -8,10 +8,10 @@ use mathlib.Core.Logic.{⊎-elim}
 use lib.IntN.{ℤ, pos}
 use lib.Dec.{eqb, ltb, lit<}
 use lib.Pow.{pow-pos}
-use lib.Ieee.{Float, nan, inf, fin, binary64, up, down, odd, units, round, sum, neg, add, sub, mul, div, lt, eq, le, isNan}
-use lib.Ieee.Exact.{HasValue, round-exact}
+use lib.Ieee.{Float, nan, inf, fin, binary64, up, down, size, odd, units, round, sum, neg, add, sub, mul, div, lt, eq, le, isNan}
 use lib.Ieee.Fits.{up-pos, down-pos, round-is}
 use lib.Ieee.Order.{drop, kept}
+use lib.Ieee.Scale.{round-same}
 use borrow.Author.Tests.{le-ltb, ltb-true, ltb-false, eqb-true, eq-eqb}
 use Rattle.lists.proofs.Truth.{case-of, cond-case, clash, or-cases, and-left, and-right}
 
@@ -59,26 +59,19 @@ pub size-none : (m : ℕ) (e : ℤ) → m * up e ≡ 0 → m ≡ 0
 size-none zero e q = refl
 size-none (suc m) e q = absurd (omega (arith, mul-pos (zero-lt-suc m) (up-pos e)))
 
--- a value of size 0
-zero-from : (x : Float) (c : ℕ) → 0 < c → HasValue x true 0 c → FromZero x
-zero-from nan c p h = h
-zero-from (inf s) c p h = absurd h
-zero-from (fin false m e) c p h = tt
-zero-from (fin true m e) c p h = size-none m e (none (m * up e) (h .1))
-  where
-    none : (a : ℕ) → a * c ≡ 0 * down e → a ≡ 0
-    none zero q = refl
-    none (suc a) q = absurd (omega (arith, zero-mul (down e), mul-pos (zero-lt-suc a) p))
+-- 0 rounds to 0, with its sign
+pub round-zero : (s : Bool) (a c : ℕ) → a ≡ 0 → 0 < c → round binary64 s a c ≡ fin s 0 (pos 0)
+unfolding round size units odd
+round-zero s a c q p = round-same binary64 s a c 0 1 p (lit< tt) (rw q (simp zero-mul))
 
--- -0 rounds to -0
 round-minus : (a c : ℕ) → a ≡ 0 → 0 < c → FromZero (round binary64 true a c)
-round-minus a c q p = rw q (zero-from (round binary64 true 0 c) c p (round-exact binary64 true 0 c 0 0 p (pow-pos 53) (pow-pos 2098) (simp zero-mul)))
+round-minus a c q p = rw (round-zero true a c q p) refl
 
 -- a product with 0
-no-left : (m u : ℕ) → m ≡ 0 → m * u ≡ 0
+pub no-left : (m u : ℕ) → m ≡ 0 → m * u ≡ 0
 no-left m u q = rw (q, zero-mul)
 
-no-right : (b m : ℕ) → m ≡ 0 → b * m ≡ 0
+pub no-right : (b m : ℕ) → m ≡ 0 → b * m ≡ 0
 no-right b m q = rw (q, mul-zero)
 
 -- ---- the operations of a round

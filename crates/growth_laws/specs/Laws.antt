@@ -9,6 +9,7 @@ use lib.ListN.{length, getD}
 use lib.IntN.{pos}
 use lib.Ieee.{nan, inf, fin, binary64, add, lt, le, isNan}
 use Rattle.lists.specs.Lists.{member}
+use Rattle.weight.specs.Weight.{weightFits}
 use Rattle.steps.specs.Graph.{Graph}
 use Rattle.steps.specs.Growth as Growth
 use Rattle.steps.specs.Growth.{State, tolerance, labelOf, isCounted, stepOf, leastOf, next, after}
@@ -16,6 +17,10 @@ use Rattle.steps.specs.Call.{AcceptedGraph}
 use Rattle.steps.specs.Laws.{Clustered, Ordered, counted}
 
 -- ---- the edges between two rounds
+
+-- each edge's weight is one that the check of a graph lets pass
+abbrev pub Fit : Graph → Type 0
+Fit g = (e : ℕ) → e < length (g .edge-u) → weightFits (getD (g .edge-weight) e nan) ≡ true
 
 -- an edge that is not saturated has grown to a finite value, from 0 to its weight
 pub record Unsaturated (g : Graph) (s : State) (e : ℕ) : Type 0 where

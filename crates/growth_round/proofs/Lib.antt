@@ -1,2 +1,3 @@
-pub mod Laws
+pub mod Touching
+pub mod Settling
 pub mod Whole

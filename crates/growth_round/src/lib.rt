@@ -1,13 +1,13 @@
 // One round of growth: document 01, "Growth and clusters", steps 1 to 3.
-ghost use Prim.Native.Nat.{ℕ, zero, suc, _+_, _*_, _<_, _≤_};
-ghost use mathlib.Core.Path.{_≡_};
-ghost use mathlib.Core.Bool.{Bool, true, false};
-ghost use lib.ListN.{length, getD, take};
+ghost use Prim.Native.Nat.{_≤_};
+ghost use lib.ListN.{length};
 ghost use Rattle.adjacency.specs.Adjacent.{weighted};
+ghost use Rattle.growth_laws.specs.Laws.{Fit};
+ghost use Rattle.growth_laws.proofs.Rooms.{Rooms};
 ghost use Rattle.growth_state.specs.Rep.{stateOf, Rep};
 ghost use Rattle.growth_round.specs.Round.{Space, Touching, Touched, Settling, Settled, Stepped};
 
-// Step 1: lists the counted edges, ascending, and the count of each; frees the active clusters that have an open edge. Long for its parameters, one a line.
+// Step 1: lists the counted edges and the count of each; frees the active clusters that have an open edge. Long for its parameters, one a line.
 pub fn touch(
     d: usize,
     edge_u: &[u32],
@@ -27,33 +27,32 @@ pub fn touch(
     parent: &mut [u32],
     hot: &[bool],
     free: &mut [bool],
-    live: &mut [bool],
-    bits: &mut [u64],
     front: &mut [u32],
     touched: &mut [u32],
     cnt: &mut [u8],
 ) -> usize
     requires { ⌜ Space d (now «edge_u») (now «edge_v») (now «edge_weight») (now «adj_offsets») (now «adj_edge») (now far) (now front) (now touched) (now cnt) ⌝ }
-    requires { ⌜ Touching (weighted d (now «edge_u») (now «edge_v») (now «edge_weight»)) (now lit) (now sat) (now parent) (now active) a (now known) (now seen) n (now hot) (now free) (now live) (now bits) ⌝ }
+    requires { ⌜ Touching (weighted d (now «edge_u») (now «edge_v») (now «edge_weight»)) (now lit) (now sat) (now parent) (now active) a (now known) (now seen) n (now hot) (now free) ⌝ }
     ensures { λ r. ⌜ Touched (weighted d (now («edge_u» .entry)) (now («edge_v» .entry)) (now («edge_weight» .entry))) (now (lit .entry)) (stateOf d (now (growth .entry)) (now (sat .entry)) (now (parent .entry)) (now (active .entry)) a)
-        (now (known .entry)) (now (parent .exit)) (now (free .exit)) (now (live .exit)) (now (bits .exit)) (now (touched .exit)) (now (cnt .exit)) r ⌝ }
+        (now (parent .exit)) (now (free .exit)) (now (touched .exit)) (now (cnt .exit)) r ⌝ }
 {
-    let f = rounds::front(d, seen, n, parent, hot, live, front);
+    let f = rounds::front(d, seen, n, parent, hot, front);
     rounds::count(
+        free,
+        touched,
+        cnt,
         d,
         edge_u,
         edge_v,
-        front,
-        f,
         adj_offsets,
         adj_edge,
         far,
         parent,
         sat,
-        free,
-        bits,
-    );
-    rounds::take(d, edge_u, edge_v, live, bits, touched, cnt)
+        hot,
+        front,
+        f,
+    )
 }
 
 // Steps 2 and 3: the least step, growth by it, and what saturates. Long for its parameters, one a line.
@@ -82,10 +81,8 @@ pub fn settle(
     ensures { λ r. ⌜ Settled (weighted d (now («edge_u» .entry)) (now («edge_v» .entry)) (now («edge_weight» .entry))) (now (lit .entry)) (stateOf d (now (growth .entry)) (now (sat .entry)) (now (parent .entry)) (now (active .entry)) a)
         (now (growth .exit)) (now (known .entry)) (now (sat .exit)) (now (known .exit)) (now (seen .exit)) r (now (parent .exit)) (now (odd .exit)) (now («boundary_edge» .exit)) ⌝ }
 {
-    let b = rounds::least(touched, cnt, m, edge_weight, growth);
-    let step = b.step;
-    let edge = b.edge;
-    let k = rounds::grow(touched, cnt, m, step, edge, edge_weight, growth, fresh);
+    let step = rounds::least(touched, cnt, m, edge_weight, growth);
+    let k = rounds::grow(touched, cnt, m, step, edge_weight, growth, fresh);
     clusters::merge(
         d,
         edge_u,
@@ -133,8 +130,6 @@ pub fn round(
     boundary_edge: &mut [u32],
     hot: &mut [bool],
     free: &mut [bool],
-    live: &mut [bool],
-    bits: &mut [u64],
     front: &mut [u32],
     touched: &mut [u32],
     cnt: &mut [u8],
@@ -142,9 +137,10 @@ pub fn round(
 ) -> Step
     requires { ⌜ Space d (now «edge_u») (now «edge_v») (now «edge_weight») (now «adj_offsets») (now «adj_edge») (now far) (now front) (now touched) (now cnt) ⌝ }
     requires { ⌜ length (now «edge_u») ≤ length (now fresh) ⌝ }
-    requires { ⌜ Rep (weighted d (now «edge_u») (now «edge_v») (now «edge_weight»)) (now lit) (stateOf d (now growth) (now sat) (now parent) (now active) a) (now growth) (now sat) (now parent) (now active) a (now odd) (now «boundary_edge») (now known) (now seen) n (now hot) (now free) (now live) (now bits) ⌝ }
+    requires { ⌜ Fit (weighted d (now «edge_u») (now «edge_v») (now «edge_weight»)) × Rooms (weighted d (now «edge_u») (now «edge_v») (now «edge_weight»)) (stateOf d (now growth) (now sat) (now parent) (now active) a) ⌝ }
+    requires { ⌜ Rep (weighted d (now «edge_u») (now «edge_v») (now «edge_weight»)) (now lit) (stateOf d (now growth) (now sat) (now parent) (now active) a) (now growth) (now sat) (now parent) (now active) a (now odd) (now «boundary_edge») (now known) (now seen) n (now hot) (now free) ⌝ }
     ensures { λ r. ⌜ Stepped (weighted d (now («edge_u» .entry)) (now («edge_v» .entry)) (now («edge_weight» .entry))) (now (lit .entry)) (stateOf d (now (growth .entry)) (now (sat .entry)) (now (parent .entry)) (now (active .entry)) a)
-        (r .stuck) (now (growth .exit)) (now (sat .exit)) (now (parent .exit)) (now (active .exit)) (r .active) (now (odd .exit)) (now («boundary_edge» .exit)) (now (known .exit)) (now (seen .exit)) (r .seen) (now (hot .exit)) (now (free .exit)) (now (live .exit)) (now (bits .exit)) ⌝ }
+        (r .stuck) (now (growth .exit)) (now (sat .exit)) (now (parent .exit)) (now (active .exit)) (r .active) (now (odd .exit)) (now («boundary_edge» .exit)) (now (known .exit)) (now (seen .exit)) (r .seen) (now (hot .exit)) (now (free .exit)) ⌝ }
 {
     let m = touch(
         d,
@@ -165,8 +161,6 @@ pub fn round(
         parent,
         hot,
         free,
-        live,
-        bits,
         front,
         touched,
         cnt,

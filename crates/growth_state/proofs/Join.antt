@@ -2,7 +2,7 @@
 use Prim.Native.Nat.{ℕ, zero, suc, _+_, _<_, _≤_, min, max}
 use native.Mathlib.Omega.{arith}
 use mathlib.Core.Path.{_≡_, refl, sym, ap, ap₂, _∙_}
-use mathlib.Core.List.{List, [], _∷_, map}
+use mathlib.Core.List.{List, [], _∷_}
 use mathlib.Core.Bool.{Bool, true, false, cond, not, _&&_, _||_, xor}
 use mathlib.Core.Logic.{_⊎_, inl, inr, ⊎-elim}
 use lib.Dec.{eqb}
@@ -10,9 +10,9 @@ use lib.ListN.{length, getD, set, length-map, length-set, List·getD-map}
 use lib.Seq.{getD-set-same, getD-set-other}
 use borrow.Author.Tests.{eqb-true, eqb-false, eq-eqb, ne-eqb}
 use Rattle.lists.specs.Lists.{from, below, odd, member}
-use Rattle.steps.specs.Graph.{Graph, Ends, boundary, inner, outer, edges, isPair}
-use Rattle.steps.specs.Growth.{isOdd, exits, merge}
-use Rattle.lists.proofs.Truth.{case-of, clash, same-eqb, or-intro}
+use Rattle.steps.specs.Graph.{Graph, Ends, inner, edges, isPair}
+use Rattle.steps.specs.Growth.{isOdd, exits}
+use Rattle.lists.proofs.Truth.{case-of, same-eqb, or-intro}
 use Rattle.lists.proofs.Members.{member-below, getD-any}
 use Rattle.lists.proofs.Sums.{odd-cong, odd-xor}
 use Rattle.forest.specs.Forest.{Down, labels, rename, relabel}

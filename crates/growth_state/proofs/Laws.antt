@@ -2,8 +2,8 @@
 use Prim.Native.Nat.{ℕ, zero, suc, _+_, _<_, _≤_}
 use native.Mathlib.Omega.{arith}
 use native.Mathlib.Numerals.{add-one}
-use mathlib.Core.Path.{_≡_, refl, sym}
-use mathlib.Core.List.{List, [], _∷_, _++_}
+use mathlib.Core.Path.{_≡_, refl, sym, ap₂}
+use mathlib.Core.List.{List, [], _∷_, _++_, map}
 use mathlib.Core.Bool.{Bool, true, false, cond, _&&_, _||_, or-false, or-assoc}
 use mathlib.Core.Logic.{⊎-elim}
 use lib.Dec.{eqb}
@@ -36,10 +36,11 @@ filter-filter p q (a ∷ l) = case-of (p a)
     (λ t. case-of (q a) (λ u. rw (t, u, filter-filter p q l)) (λ u. rw (t, u, filter-filter p q l)))
     (λ f. rw (f, filter-filter p q l))
 
-pub filter-no : (p : ℕ → Bool) (l : List ℕ) → ((a : ℕ) → member a l ≡ true → p a ≡ false) → filter p l ≡ []
-unfolding filter member
-filter-no p [] h = refl
-filter-no p (a ∷ l) h = rw (h a (rw (same-eqb a)), filter-no p l (λ b m. h b (or-intro (eqb b a) (member b l) m)))
+-- functions that agree on a list map it alike
+pub map-cong : (f h : ℕ → ℕ) (l : List ℕ) → ((a : ℕ) → member a l ≡ true → f a ≡ h a) → map f l ≡ map h l
+unfolding member
+map-cong f h [] q = refl
+map-cong f h (a ∷ l) q = ap₂ (λ (b : ℕ) (m : List ℕ). b ∷ m) (q a (rw (same-eqb a))) (map-cong f h l (λ b k. q b (or-intro (eqb b a) (member b l) k)))
 
 -- ---- one more element
 

@@ -1,27 +1,26 @@
 -- A detector that is not seen is at rest: alone in its cluster, not lit, without an exit and not active. Assumes nothing.
 use Prim.Native.Nat.{ℕ, _+_, _<_, _≤_}
 use native.Mathlib.Omega.{arith}
-use mathlib.Core.Path.{_≡_, refl, sym, ap, _∙_}
+use mathlib.Core.Path.{_≡_, refl, sym, _∙_}
 use mathlib.Core.List.{List, map}
-use mathlib.Core.Bool.{Bool, true, false, cond, not, _&&_, _||_, and-true}
-use mathlib.Core.Logic.{⊎-elim}
+use mathlib.Core.Bool.{Bool, true, false, cond, not, _&&_}
 use lib.Dec.{eqb}
 use lib.ListN.{length, getD, take}
 use lib.Ieee.{Float, nan}
-use borrow.Author.Tests.{eqb-true, eqb-false, eq-eqb, ne-eqb}
-use Rattle.lists.specs.Lists.{from, below, any, odd, member}
-use Rattle.lists.proofs.Truth.{case-of, clash, same-eqb, not-so, and-left, and-right, or-intro}
+use borrow.Author.Tests.{eqb-true, eq-eqb, ne-eqb}
+use Rattle.lists.specs.Lists.{below, any, odd, member}
+use Rattle.lists.proofs.Truth.{clash, same-eqb, not-so, and-left, and-right, or-intro}
 use Rattle.lists.proofs.Members.{member-below, any-at, getD-any, getD-below}
 use Rattle.lists.proofs.Sums.{odd-some}
 use Rattle.steps.specs.Graph.{Graph, Ends, boundary, inner, outer, edges, isPair}
-use Rattle.steps.specs.Growth.{State, one, isOdd, exits, isOpen, isActive, labelOf, count, isCounted, grown}
+use Rattle.steps.specs.Growth.{State, one, isOdd, exits, isOpen, count, isCounted, grown}
 use Rattle.steps.specs.Laws.{Constant}
-use Rattle.found.proofs.Labels.{name, Labels}
+use Rattle.found.proofs.Labels.{name}
 use Rattle.found.proofs.Rounds.{Kept, of-live}
 use Rattle.forest.specs.Forest.{Down, labels}
-use Rattle.forest.proofs.Forest.{labels-named, length-labels}
+use Rattle.forest.proofs.Forest.{labels-named}
 use Rattle.adjacency.specs.Adjacent.{touches}
-use Rattle.growth_state.specs.Rep.{zero64, lowest, Clusters, Seen, Calm, Used}
+use Rattle.growth_state.specs.Rep.{lowest, Clusters, Seen, Calm, Used}
 use Rattle.growth_state.proofs.Join.{lowest-cong, lowest-none}
 
 module _ (g : Graph) (ok : Ends g) (lit sat : List Bool) (ls act : List ℕ) (k : Kept g lit sat ls act) (known : List Bool) (seen : List ℕ) (n : ℕ) (v : Seen g lit sat known seen n) where
@@ -115,13 +114,12 @@ module _ (g : Graph) (ok : Ends g) (lit sat : List Bool) (ls act : List ℕ) (k 
       (or-intro (eqb (inner g e) (outer g e)) (isPair g e && eqb (outer g e) (outer g e)) (rw (p, same-eqb (outer g e))))) f)
 
   -- whatever is not at rest belongs to a detector seen, or to an edge of one
-  pub used-of : (growth : List Float) (parent : List ℕ) (odd : List Bool) (exit : List ℕ) (hot free live : List Bool)
+  pub used-of : (growth : List Float) (parent : List ℕ) (odd : List Bool) (exit : List ℕ) (hot free : List Bool)
       → length lit ≡ g .detectors → length growth ≡ length (g .edge-u) → length parent ≡ g .detectors → labels (g .detectors) parent ≡ ls → Clusters g lit sat parent odd exit → Calm g growth known
       → length hot ≡ g .detectors → ((r : ℕ) → r < g .detectors → getD hot r false ≡ member r act)
       → length free ≡ g .detectors → ((r : ℕ) → r < g .detectors → member r act ≡ false → getD free r false ≡ false)
-      → length live ≡ g .detectors → ((x : ℕ) → x < g .detectors → getD known x false ≡ false → getD live x false ≡ false)
-      → Used (g .detectors) (g .edge-u) (g .edge-v) (take n seen) lit growth sat known parent odd exit hot free live
-  used-of growth parent odd exit hot free live ll lg lp q c calm lh hots lf frees lv lives = record {
+      → Used (g .detectors) (g .edge-u) (g .edge-v) (take n seen) lit growth sat known parent odd exit hot free
+  used-of growth parent odd exit hot free ll lg lp q c calm lh hots lf frees = record {
     lits = ll;
     growths = lg;
     sats = k .sats;
@@ -131,7 +129,6 @@ module _ (g : Graph) (ok : Ends g) (lit sat : List Bool) (ls act : List ℕ) (k 
     exits = c .exits;
     hots = lh;
     frees = lf;
-    lives = lv;
     lit-rest = λ x h f. not-so (getD lit x false) (λ t. clash (v .lit-known x h t) (unlisted x h f));
     known-rest = unlisted;
     parent-rest = λ x h f. own-parent x h (unlisted x h f) parent (c .down) q;
@@ -139,7 +136,6 @@ module _ (g : Graph) (ok : Ends g) (lit sat : List Bool) (ls act : List ℕ) (k 
     exit-rest = λ x h f. c .exit-is x h (root x h f) ∙ rw q (no-exit x h (unlisted x h f));
     hot-rest = λ x h f. hots x h ∙ inactive x h (unlisted x h f);
     free-rest = λ x h f. frees x h (inactive x h (unlisted x h f));
-    live-rest = λ x h f. lives x h (unlisted x h f);
     growth-rest = λ e h f. calm e h (inner-unseen e h f) (outer-unseen e h f);
     sat-rest = λ e h f. not-so (getD sat e false) (λ t. clash (v .inner-known e h t) (inner-unseen e h f));
   }

@@ -1,15 +1,13 @@
 -- What the tables of growth hold between two rounds: a `State` of `steps`, and what is kept beside it.
-use Prim.Native.Nat.{ℕ, zero, suc, _+_, _*_, _<_, _≤_}
+use Prim.Native.Nat.{ℕ, _+_, _<_, _≤_}
 use mathlib.Core.Path.{_≡_}
 use mathlib.Core.List.{List, [], _∷_}
 use mathlib.Core.Bool.{Bool, true, false, cond}
-use lib.Dec.{eqb}
-use lib.ListN.{length, getD, take, replicate}
+use lib.ListN.{length, getD, take}
 use lib.IntN.{pos}
 use lib.Ieee.{Float, nan, fin}
 use Rattle.lists.specs.Lists.{any, member, falses}
-use Rattle.bits.specs.Rows.{words}
-use Rattle.steps.specs.Graph.{Graph, Ends, boundary, inner, outer, edges, isPair}
+use Rattle.steps.specs.Graph.{Graph, boundary, inner, outer, edges, isPair}
 use Rattle.steps.specs.Growth.{State, isOdd, exits}
 use Rattle.found.proofs.Rounds.{Kept}
 use Rattle.forest.specs.Forest.{Down, labels}
@@ -54,19 +52,16 @@ abbrev pub Calm : Graph → List Float → List Bool → Type 0
 Calm g growth known =
     (e : ℕ) → e < length (g .edge-u) → getD known (inner g e) false ≡ false → (isPair g e ≡ true → getD known (outer g e) false ≡ false) → getD growth e nan ≡ zero64
 
--- between two rounds: the roots of the active clusters are hot, none is free yet, no detector that is not known is live, and no edge is marked
-pub record Rest (g : Graph) (known : List Bool) (active : List ℕ) (n : ℕ) (hot free live : List Bool) (bits : List ℕ) : Type 0 where
+-- between two rounds: the roots of the active clusters are hot, and none is free yet
+pub record Rest (g : Graph) (active : List ℕ) (n : ℕ) (hot free : List Bool) : Type 0 where
   pub hots : length hot ≡ g .detectors
   pub hot-is : (r : ℕ) → r < g .detectors → getD hot r false ≡ member r (take n active)
   pub frees : length free ≡ g .detectors
   pub none-free : (r : ℕ) → getD free r false ≡ false
-  pub lives : length live ≡ g .detectors
-  pub none-live : (x : ℕ) → x < g .detectors → getD known x false ≡ false → getD live x false ≡ false
-  pub no-bits : bits ≡ replicate (words (length (g .edge-u))) 0
 
 -- all of it
 pub record Rep (g : Graph) (lit : List Bool) (s : State) (growth : List Float) (sat : List Bool) (parent active : List ℕ) (a : ℕ)
-    (odd : List Bool) (exit : List ℕ) (known : List Bool) (seen : List ℕ) (n : ℕ) (hot free live : List Bool) (bits : List ℕ) : Type 0 where
+    (odd : List Bool) (exit : List ℕ) (known : List Bool) (seen : List ℕ) (n : ℕ) (hot free : List Bool) : Type 0 where
   pub state : s ≡ stateOf (g .detectors) growth sat parent active a
   pub lits : length lit ≡ g .detectors
   pub growths : length growth ≡ length (g .edge-u)
@@ -77,10 +72,10 @@ pub record Rep (g : Graph) (lit : List Bool) (s : State) (growth : List Float) (
   pub clusters : Clusters g lit sat parent odd exit
   pub seens : Seen g lit sat known seen n
   pub calm : Calm g growth known
-  pub rest : Rest g known active a hot free live bits
+  pub rest : Rest g active a hot free
 
 -- after a shot: whatever is not at rest belongs to one of the detectors xs, or to an edge of one
-pub record Used (d : ℕ) (us vs xs : List ℕ) (lit : List Bool) (growth : List Float) (sat known : List Bool) (parent : List ℕ) (odd : List Bool) (exit : List ℕ) (hot free live : List Bool) : Type 0 where
+pub record Used (d : ℕ) (us vs xs : List ℕ) (lit : List Bool) (growth : List Float) (sat known : List Bool) (parent : List ℕ) (odd : List Bool) (exit : List ℕ) (hot free : List Bool) : Type 0 where
   pub lits : length lit ≡ d
   pub growths : length growth ≡ length us
   pub sats : length sat ≡ length us
@@ -90,7 +85,6 @@ pub record Used (d : ℕ) (us vs xs : List ℕ) (lit : List Bool) (growth : List
   pub exits : length exit ≡ d
   pub hots : length hot ≡ d
   pub frees : length free ≡ d
-  pub lives : length live ≡ d
   pub lit-rest : (x : ℕ) → x < d → member x xs ≡ false → getD lit x false ≡ false
   pub known-rest : (x : ℕ) → x < d → member x xs ≡ false → getD known x false ≡ false
   pub parent-rest : (x : ℕ) → x < d → member x xs ≡ false → getD parent x 0 ≡ x
@@ -98,6 +92,5 @@ pub record Used (d : ℕ) (us vs xs : List ℕ) (lit : List Bool) (growth : List
   pub exit-rest : (x : ℕ) → x < d → member x xs ≡ false → getD exit x 0 ≡ boundary
   pub hot-rest : (x : ℕ) → x < d → member x xs ≡ false → getD hot x false ≡ false
   pub free-rest : (x : ℕ) → x < d → member x xs ≡ false → getD free x false ≡ false
-  pub live-rest : (x : ℕ) → x < d → member x xs ≡ false → getD live x false ≡ false
   pub growth-rest : (e : ℕ) → e < length us → any (λ x. touches us vs x e) xs ≡ false → getD growth e nan ≡ zero64
   pub sat-rest : (e : ℕ) → e < length us → any (λ x. touches us vs x e) xs ≡ false → getD sat e false ≡ false

@@ -7,10 +7,11 @@ use mathlib.Core.Bool.{Bool}
 use lib.Ieee.{Float}
 use lib.ListN.{length, take}
 use lib.Seq.{length-take-le, take-take}
-use Rattle.bits.specs.Rows.{words}
 use Rattle.steps.specs.Graph.{Graph}
 use Rattle.steps.specs.Shot.{decode, rowLeft}
 use Rattle.steps.specs.Call.{graphOf, listLeft}
+use Rattle.growth_laws.specs.Laws.{Fit}
+use Rattle.adjacency.specs.Adjacent.{weighted}
 use Rattle.cleaning.specs.Clean.{Sizes}
 use Rattle.shot_answer.specs.declared.Shot.{Shot}
 use Rattle.shot_answer.specs.Shots.{Tables, Places, graphIn, shotOf}
@@ -50,6 +51,10 @@ module _ {d o n : ℕ} {u v : List ℕ} {weight : List Float} {obs off adj far :
   unfolding graphOf
   small-of = t .ends .small
 
+  fits-part : Fit (weighted d (take n u) (take n v) (take n weight))
+  unfolding graphOf
+  fits-part = t .fits
+
   pub tables : Tables d o (part n u) (part n v) (part n weight) obs (part (d + 1) off) (part (2 * n) adj) (part (2 * n) far)
   tables =
       let z : n - 0 ≡ n = omega arith in
@@ -57,6 +62,7 @@ module _ {d o n : ℕ} {u v : List ℕ} {weight : List Float} {obs off adj far :
       let x : 2 * n - 0 ≡ 2 * n = omega arith in
       rw (z, y, x) (record {
         ends = rw (graph-part d o n u v weight obs (t .firsts)) (t .ends);
+        fits = fits-part;
         others = length-take-le n v (t .others) ∙ sym counted;
         weights = length-take-le n weight (t .weights) ∙ sym counted;
         rows = rw counted (t .rows);
@@ -67,15 +73,15 @@ module _ {d o n : ℕ} {u v : List ℕ} {weight : List Float} {obs off adj far :
   pub places-of : {defects seen active front touched cnt fresh oe op : List ℕ} → Places d n defects seen active front touched cnt fresh oe op → Places d (length (part n u)) defects seen active front touched cnt fresh oe op
   places-of k = let z : n - 0 ≡ n = omega arith in rw (z, counted) k
 
-  pub spaces-of : {lit : List Bool} {growth : List Float} {sat known : List Bool} {parent : List ℕ} {odd : List Bool} {exit : List ℕ} {hot free live : List Bool} {bits : List ℕ} → Spaces d n lit growth sat known parent odd exit hot free live bits
-      → Spaces d (length (part n u)) lit growth sat known parent odd exit hot free live bits
+  pub spaces-of : {lit : List Bool} {growth : List Float} {sat known : List Bool} {parent : List ℕ} {odd : List Bool} {exit : List ℕ} {hot free : List Bool} → Spaces d n lit growth sat known parent odd exit hot free
+      → Spaces d (length (part n u)) lit growth sat known parent odd exit hot free
   spaces-of k = let z : n - 0 ≡ n = omega arith in rw (z, counted) k
 
 -- ---- the tables
 
 -- those of growth
-pub cut : (d n : ℕ) (lit : List Bool) (growth : List Float) (sat known : List Bool) {parent : List ℕ} {odd : List Bool} {exit : List ℕ} {hot free live : List Bool} {bits : List ℕ} → Spaces d n lit growth sat known parent odd exit hot free live bits
-    → Spaces d n (part d lit) (part n growth) (part n sat) (part d known) parent odd exit hot free live bits × ((length (part d lit) ≡ d) × (length (part n growth) ≡ n) × (length (part n sat) ≡ n) × (length (part d known) ≡ d))
+pub cut : (d n : ℕ) (lit : List Bool) (growth : List Float) (sat known : List Bool) {parent : List ℕ} {odd : List Bool} {exit : List ℕ} {hot free : List Bool} → Spaces d n lit growth sat known parent odd exit hot free
+    → Spaces d n (part d lit) (part n growth) (part n sat) (part d known) parent odd exit hot free × ((length (part d lit) ≡ d) × (length (part n growth) ≡ n) × (length (part n sat) ≡ n) × (length (part d known) ≡ d))
 cut d n lit growth sat known k =
     let a = length-take-le d lit (k .lits) in
     let b = length-take-le n growth (k .growths) in
@@ -94,21 +100,18 @@ cut d n lit growth sat known k =
         exits = k .exits;
         hots = k .hots;
         frees = k .frees;
-        lives = k .lives;
-        marks = k .marks;
       },
       (a, b, c, e),
     )
 
 -- those of clusters
 pub sizes : {d o : ℕ} {u v : List ℕ} {weight : List Float} {obs off adj far : List ℕ} → Tables d o u v weight obs off adj far
-    → {lit : List Bool} {growth : List Float} {sat known : List Bool} (parent : List ℕ) (odd : List Bool) (exit : List ℕ) (hot free live : List Bool) (bits : List ℕ) → Spaces d (length u) lit growth sat known parent odd exit hot free live bits
-    → (length lit ≡ d) × (length growth ≡ length u) × (length sat ≡ length u) × (length known ≡ d) → (w : ℕ) → w ≡ words (length u)
-    → Sizes d (length u) lit growth sat known (part d parent) (part d odd) (part d exit) (part d hot) (part d free) (part d live) (part w bits)
-sizes {d} {u = u} t parent odd exit hot free live bits k x w e =
+    → {lit : List Bool} {growth : List Float} {sat known : List Bool} (parent : List ℕ) (odd : List Bool) (exit : List ℕ) (hot free : List Bool) → Spaces d (length u) lit growth sat known parent odd exit hot free
+    → (length lit ≡ d) × (length growth ≡ length u) × (length sat ≡ length u) × (length known ≡ d)
+    → Sizes d (length u) lit growth sat known (part d parent) (part d odd) (part d exit) (part d hot) (part d free)
+sizes {d} t parent odd exit hot free k x =
     let y : d - 0 ≡ d = omega arith in
-    let z : w - 0 ≡ w = omega arith in
-    rw (y, z, e) (record {
+    rw y (record {
       small = small t;
       lits = x .0;
       growths = x .1;
@@ -119,6 +122,4 @@ sizes {d} {u = u} t parent odd exit hot free live bits k x w e =
       exits = length-take-le d exit (k .exits);
       hots = length-take-le d hot (k .hots);
       frees = length-take-le d free (k .frees);
-      lives = length-take-le d live (k .lives);
-      marks = length-take-le (words (length u)) bits (k .marks);
     })

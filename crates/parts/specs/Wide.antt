@@ -7,15 +7,17 @@ use lib.Ieee.{Float}
 use Rattle.bits.specs.Rows.{words}
 use Rattle.steps.specs.Graph.{Ends}
 use Rattle.steps.specs.Call.{graphOf}
+use Rattle.growth_laws.specs.Laws.{Fit}
 use Rattle.adjacency.specs.Adjacent.{Adjacent}
 
 -- the entries that n edges need have the edges at each detector
 abbrev pub AdjacentParts : ℕ → ℕ → List ℕ → List ℕ → List ℕ → List ℕ → List ℕ → Type 0
 AdjacentParts d n u v off adj far = Adjacent d (take n u) (take n v) (take (d + 1) off) (take (2 * n) adj) (take (2 * n) far)
 
--- a graph of n edges whose ends are in order, with the edges at each detector
+-- a graph of n edges whose ends are in order and whose weights fit, with the edges at each detector
 pub record Wide (d o n : ℕ) (u v : List ℕ) (weight : List Float) (obs off adj far : List ℕ) : Type 0 where
   pub ends : Ends (graphOf d o n u v weight obs)
+  pub fits : Fit (graphOf d o n u v weight obs)
   pub firsts : n ≤ length u
   pub others : n ≤ length v
   pub weights : n ≤ length weight
@@ -26,8 +28,8 @@ pub record Wide (d o n : ℕ) (u v : List ℕ) (weight : List Float) (obs off ad
   pub fars : 2 * n ≤ length far
   pub adjacent : AdjacentParts d n u v off adj far
 
--- at least a place for each detector or edge, and a bit for each edge
-pub record Spaces (d E : ℕ) (lit : List Bool) (growth : List Float) (sat known : List Bool) (parent : List ℕ) (odd : List Bool) (exit : List ℕ) (hot free live : List Bool) (bits : List ℕ) : Type 0 where
+-- at least a place for each detector or edge
+pub record Spaces (d E : ℕ) (lit : List Bool) (growth : List Float) (sat known : List Bool) (parent : List ℕ) (odd : List Bool) (exit : List ℕ) (hot free : List Bool) : Type 0 where
   pub lits : d ≤ length lit
   pub growths : E ≤ length growth
   pub sats : E ≤ length sat
@@ -37,5 +39,3 @@ pub record Spaces (d E : ℕ) (lit : List Bool) (growth : List Float) (sat known
   pub exits : d ≤ length exit
   pub hots : d ≤ length hot
   pub frees : d ≤ length free
-  pub lives : d ≤ length live
-  pub marks : words E ≤ length bits

@@ -39,20 +39,16 @@ fn decode_cluster_parts(
     boundary_edge: &mut [u32],
     hot: &mut [bool],
     free: &mut [bool],
-    live: &mut [bool],
-    bits: &mut [u64],
 ) -> Shot
     requires { ⌜ Tables detectors observables (now «edge_u») (now «edge_v») (now «edge_weight») (now «edge_obs») (now «adj_offsets») (now «adj_edge») (now «adj_far») ⌝ }
     requires { ⌜ Given detectors observables (now shot) (now row) (now list) ⌝ }
     requires { ⌜ Places detectors (length (now «edge_u»)) (now defects) (now seen) (now active) (now front) (now touched) (now cnt) (now fresh) (now «order_edge») (now «order_parent») ⌝ }
-    requires { ⌜ Spaces detectors (length (now «edge_u»)) (now lit) (now growth) (now sat) (now known) (now parent) (now odd) (now «boundary_edge») (now hot) (now free) (now live) (now bits) ⌝ }
+    requires { ⌜ Spaces detectors (length (now «edge_u»)) (now lit) (now growth) (now sat) (now known) (now parent) (now odd) (now «boundary_edge») (now hot) (now free) ⌝ }
     requires { ⌜ (length (now lit) ≡ detectors) × (length (now growth) ≡ length (now «edge_u»)) × (length (now sat) ≡ length (now «edge_u»)) × (length (now known) ≡ detectors) ⌝ }
     ensures answers { λ r. ⌜ r ≡ shotOf (decodeIn detectors observables (now («edge_u» .entry)) (now («edge_v» .entry)) (now («edge_weight» .entry)) (now («edge_obs» .entry)) (now (shot .entry))) ⌝ }
     ensures lists { λ _. ⌜ now (list .exit) ≡ listLeft (now (list .entry)) (decodeIn detectors observables (now («edge_u» .entry)) (now («edge_v» .entry)) (now («edge_weight» .entry)) (now («edge_obs» .entry)) (now (shot .entry))) ⌝ }
     ensures rows { λ _. ⌜ now (row .exit) ≡ rowLeft (graphIn detectors observables (now («edge_u» .entry)) (now («edge_v» .entry)) (now («edge_weight» .entry)) (now («edge_obs» .entry))) (now (row .entry)) (decodeIn detectors observables (now («edge_u» .entry)) (now («edge_v» .entry)) (now («edge_weight» .entry)) (now («edge_obs» .entry)) (now (shot .entry))) ⌝ }
 {
-    let edges = edge_u.len();
-    let words = bits::words(edges);
     starts::decode_reset(
         detectors,
         observables,
@@ -84,8 +80,6 @@ fn decode_cluster_parts(
         &mut boundary_edge[0..detectors],
         &mut hot[0..detectors],
         &mut free[0..detectors],
-        &mut live[0..detectors],
-        &mut bits[0..words],
     )
 }
 
@@ -121,13 +115,11 @@ fn decode_growth_parts(
     boundary_edge: &mut [u32],
     hot: &mut [bool],
     free: &mut [bool],
-    live: &mut [bool],
-    bits: &mut [u64],
 ) -> Shot
     requires { ⌜ Tables detectors observables (now «edge_u») (now «edge_v») (now «edge_weight») (now «edge_obs») (now «adj_offsets») (now «adj_edge») (now «adj_far») ⌝ }
     requires { ⌜ Given detectors observables (now shot) (now row) (now list) ⌝ }
     requires { ⌜ Places detectors (length (now «edge_u»)) (now defects) (now seen) (now active) (now front) (now touched) (now cnt) (now fresh) (now «order_edge») (now «order_parent») ⌝ }
-    requires { ⌜ Spaces detectors (length (now «edge_u»)) (now lit) (now growth) (now sat) (now known) (now parent) (now odd) (now «boundary_edge») (now hot) (now free) (now live) (now bits) ⌝ }
+    requires { ⌜ Spaces detectors (length (now «edge_u»)) (now lit) (now growth) (now sat) (now known) (now parent) (now odd) (now «boundary_edge») (now hot) (now free) ⌝ }
     ensures answers { λ r. ⌜ r ≡ shotOf (decodeIn detectors observables (now («edge_u» .entry)) (now («edge_v» .entry)) (now («edge_weight» .entry)) (now («edge_obs» .entry)) (now (shot .entry))) ⌝ }
     ensures lists { λ _. ⌜ now (list .exit) ≡ listLeft (now (list .entry)) (decodeIn detectors observables (now («edge_u» .entry)) (now («edge_v» .entry)) (now («edge_weight» .entry)) (now («edge_obs» .entry)) (now (shot .entry))) ⌝ }
     ensures rows { λ _. ⌜ now (row .exit) ≡ rowLeft (graphIn detectors observables (now («edge_u» .entry)) (now («edge_v» .entry)) (now («edge_weight» .entry)) (now («edge_obs» .entry))) (now (row .entry)) (decodeIn detectors observables (now («edge_u» .entry)) (now («edge_v» .entry)) (now («edge_weight» .entry)) (now («edge_obs» .entry)) (now (shot .entry))) ⌝ }
@@ -164,8 +156,6 @@ fn decode_growth_parts(
         boundary_edge,
         hot,
         free,
-        live,
-        bits,
     )
 }
 
@@ -202,13 +192,11 @@ pub fn decode_parts(
     boundary_edge: &mut [u32],
     hot: &mut [bool],
     free: &mut [bool],
-    live: &mut [bool],
-    bits: &mut [u64],
 ) -> Shot
     requires { ⌜ Wide detectors observables edges (now «edge_u») (now «edge_v») (now «edge_weight») (now «edge_obs») (now «adj_offsets») (now «adj_edge») (now «adj_far») ⌝ }
     requires { ⌜ Given detectors observables (now shot) (now row) (now list) ⌝ }
     requires { ⌜ Places detectors edges (now defects) (now seen) (now active) (now front) (now touched) (now cnt) (now fresh) (now «order_edge») (now «order_parent») ⌝ }
-    requires { ⌜ Spaces detectors edges (now lit) (now growth) (now sat) (now known) (now parent) (now odd) (now «boundary_edge») (now hot) (now free) (now live) (now bits) ⌝ }
+    requires { ⌜ Spaces detectors edges (now lit) (now growth) (now sat) (now known) (now parent) (now odd) (now «boundary_edge») (now hot) (now free) ⌝ }
     ensures answers { λ r. ⌜ r ≡ shotOf (decode (graphOf detectors observables edges (now («edge_u» .entry)) (now («edge_v» .entry)) (now («edge_weight» .entry)) (now («edge_obs» .entry))) (litOf detectors (now (shot .entry)))) ⌝ }
     ensures lists { λ _. ⌜ now (list .exit) ≡ listLeft (now (list .entry)) (decode (graphOf detectors observables edges (now («edge_u» .entry)) (now («edge_v» .entry)) (now («edge_weight» .entry)) (now («edge_obs» .entry))) (litOf detectors (now (shot .entry)))) ⌝ }
     ensures rows { λ _. ⌜ now (row .exit) ≡ rowLeft (graphOf detectors observables edges (now («edge_u» .entry)) (now («edge_v» .entry)) (now («edge_weight» .entry)) (now («edge_obs» .entry))) (now (row .entry)) (decode (graphOf detectors observables edges (now («edge_u» .entry)) (now («edge_v» .entry)) (now («edge_weight» .entry)) (now («edge_obs» .entry))) (litOf detectors (now (shot .entry)))) ⌝ }
@@ -246,7 +234,5 @@ pub fn decode_parts(
         boundary_edge,
         hot,
         free,
-        live,
-        bits,
     )
 }

@@ -1,7 +1,6 @@
-// Tables put to rest in three groups, for callers with many slices: of each slice the entries that the counts need.
+// Tables put to rest in two groups, for callers with many slices: of each slice the entries that the counts need.
 ghost use Prim.Native.Nat.{_<_};
-ghost use Rattle.bits.specs.Rows.{words};
-ghost use Rattle.resets.specs.Rest.{cut, GrowthSpaces, GrowthRest, ClusterSpaces, ClusterRest, MarkSpaces, MarkRest};
+ghost use Rattle.resets.specs.Rest.{cut, GrowthSpaces, GrowthRest, ClusterSpaces, ClusterRest};
 
 const BOUNDARY: u32 = 4294967295;
 
@@ -23,36 +22,21 @@ pub fn reset_growth(
     fills::fill_bool(&mut known[0..detectors], false);
 }
 
-// Each detector is a cluster of its own, even and without exit.
+// Each detector is a cluster of its own, even and without exit, and nothing is marked.
 pub fn reset_clusters(
     detectors: usize,
     parent: &mut [u32],
     odd: &mut [bool],
     boundary_edge: &mut [u32],
     hot: &mut [bool],
+    free: &mut [bool],
 )
-    requires { ⌜ (detectors < 4294967296) × ClusterSpaces detectors (now parent) (now odd) (now «boundary_edge») (now hot) ⌝ }
-    ensures { λ _. ⌜ ClusterRest detectors (cut detectors (now (parent .exit))) (cut detectors (now (odd .exit))) (cut detectors (now («boundary_edge» .exit))) (cut detectors (now (hot .exit))) ⌝ }
+    requires { ⌜ (detectors < 4294967296) × ClusterSpaces detectors (now parent) (now odd) (now «boundary_edge») (now hot) (now free) ⌝ }
+    ensures { λ _. ⌜ ClusterRest detectors (cut detectors (now (parent .exit))) (cut detectors (now (odd .exit))) (cut detectors (now («boundary_edge» .exit))) (cut detectors (now (hot .exit))) (cut detectors (now (free .exit))) ⌝ }
 {
     fills::fill_numbers(&mut parent[0..detectors]);
     fills::fill_bool(&mut odd[0..detectors], false);
     fills::fill_u32(&mut boundary_edge[0..detectors], BOUNDARY);
     fills::fill_bool(&mut hot[0..detectors], false);
-}
-
-// Nothing is marked.
-pub fn reset_marks(
-    detectors: usize,
-    edges: usize,
-    free: &mut [bool],
-    live: &mut [bool],
-    bits: &mut [u64],
-)
-    requires { ⌜ MarkSpaces detectors edges (now free) (now live) (now bits) ⌝ }
-    ensures { λ _. ⌜ MarkRest detectors edges (cut detectors (now (free .exit))) (cut detectors (now (live .exit))) (cut (words edges) (now (bits .exit))) ⌝ }
-{
-    let words = bits::words(edges);
     fills::fill_bool(&mut free[0..detectors], false);
-    fills::fill_bool(&mut live[0..detectors], false);
-    fills::fill_u64(&mut bits[0..words], 0);
 }

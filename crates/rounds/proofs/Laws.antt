@@ -1,164 +1,208 @@
 -- The turns of the passes. Assumes nothing.
-use Prim.Native.Nat.{ℕ, zero, suc, _+_, _-_, _*_, _/_, _<_, _≤_}
+use Prim.Native.Nat.{ℕ, _+_, _<_, _≤_, min}
+use native.Mathlib.Nat.{add-zero}
+use native.Mathlib.Numerals.{add-one}
 use native.Mathlib.Omega.{arith}
-use mathlib.Core.Path.{_≡_, refl, sym, ap, ap₂, _∙_}
-use mathlib.Core.List.{List, [], _∷_, _++_, append-nil, append-assoc}
-use mathlib.Core.Bool.{Bool, true, false, cond, not, _&&_, _||_, or-false, or-assoc}
-use lib.Dec.{eqb}
-use lib.ListN.{length, getD, set, take}
-use lib.Ieee as Ieee
-use lib.Ieee.{Float, nan, binary64}
-use lib.IntN.{pos}
+use mathlib.Core.Path.{_≡_, refl, sym, ap, _∙_}
+use mathlib.Core.List.{List, [], _∷_, _++_, map, append-nil, append-assoc}
+use mathlib.Core.Bool.{Bool, true, false, cond, not, _&&_, _||_, or-false, or-assoc, and-false}
+use mathlib.Core.Logic.{_⊎_, inl, inr, ⊎-elim}
+use lib.Dec.{eqb, ltb}
+use lib.ListN.{length, getD, set, take, length-set, length-append}
+use lib.Ieee.{Float, nan}
 use lib.Seq.{take-set-le, slice, slice-empty}
 use mir.Val.{boolByte}
-use Rattle.steps.specs.Growth.{one, Least}
-use Rattle.rounds.specs.Passes.{leastIn, lesserOf, stepFrom, movedBy, growIn, reachesFrom, ripeIn, firstShut}
-use borrow.Author.Tests.{eqb-true, eqb-false, eq-eqb, ne-eqb}
-use Rattle.lists.specs.Lists.{filter, any, member}
-use Rattle.lists.proofs.Truth.{case-of}
-use Rattle.bits.specs.Rows.{bit}
+use Rattle.adjacency.specs.Adjacent.{star, beyond}
+use Rattle.adjacency.proofs.Stars.{adj-inside, adj-ends}
+use Rattle.steps.specs.Graph.{boundary}
+use Rattle.steps.specs.Growth.{one}
+use Rattle.rounds.specs.Passes.{isFree, farLive, takes, takenAt, countsAt, Tabled, CountedAt, takenIn, countsIn, Counted, leastIn, lesserOf, stepFrom, movedBy, growIn, reachesFrom, ripeIn, firstShut}
+use borrow.Author.Tests.{eqb-false}
+use Rattle.lists.specs.Lists.{filter, any}
+use Rattle.lists.proofs.Truth.{case-of, eqb-comm}
 use Rattle.lists.proofs.Ranges.{filter-append}
-use Rattle.growth_state.proofs.Laws.{filter-one, filter-none, member-snoc, take-next, put-next, set-bool, slice-next}
+use Rattle.lists.proofs.Slices.{slice-map}
+use Rattle.growth_state.proofs.Laws.{filter-one, filter-none, take-next, put-next, set-bool, slice-next}
 
 -- ---- front
 
-module _ (seen : List ℕ) (i : ℕ) (hi : i < length seen) (w : ℕ → Bool) where
-  pub live-step : (live live₀ : List Bool) (d : ℕ) → length live ≡ d → getD seen i 0 < d → (h : Bool) → h ≡ w (getD seen i 0)
-      → ((x : ℕ) → x < d → getD live x false ≡ cond (member x (take i seen)) (w x) (getD live₀ x false))
-      → (x : ℕ) → x < d → getD (set live (getD seen i 0) h) x false ≡ cond (member x (take (i + 1) seen)) (w x) (getD live₀ x false)
-  live-step live live₀ d len xd h q inv x hx =
-      let a = getD seen i 0 in
-      rw (take-next seen i 0 hi, member-snoc x a (take i seen), set-bool live a h x (rw len xd))
-      (case-of (eqb x a)
-      (λ t. rw (t, q, ← eqb-true x a t) (always (member x (take i seen)) (w x) (getD live₀ x false)))
-      (λ f. rw (f, or-false (member x (take i seen))) (inv x hx)))
-    where
-      always : (m p r : Bool) → p ≡ cond (m || true) p r
-      always true p r = refl
-      always false p r = refl
+module _ (seen : List ℕ) (i : ℕ) (hi : i < length seen) (w : ℕ → Bool) (m : ℕ) (front : List ℕ) (inv : take m front ≡ filter w (take i seen)) where
+  pub front-hot : m < length front → w (getD seen i 0) ≡ true → take (m + 1) (set front m (getD seen i 0)) ≡ filter w (take (i + 1) seen)
+  front-hot hm t =
+      put-next front m (getD seen i 0) hm
+      ∙ rw (inv, take-next seen i 0 hi, filter-append w (take i seen) (getD seen i 0 ∷ []), filter-one w (getD seen i 0) t)
 
-  module _ (m : ℕ) (front : List ℕ) (inv : take m front ≡ filter w (take i seen)) where
-    pub front-hot : m < length front → w (getD seen i 0) ≡ true → take (m + 1) (set front m (getD seen i 0)) ≡ filter w (take (i + 1) seen)
-    front-hot hm t =
-        put-next front m (getD seen i 0) hm
-        ∙ rw (inv, take-next seen i 0 hi, filter-append w (take i seen) (getD seen i 0 ∷ []), filter-one w (getD seen i 0) t)
+  -- what is written is not kept
+  pub front-cold : w (getD seen i 0) ≡ false → take m (set front m (getD seen i 0)) ≡ filter w (take (i + 1) seen)
+  front-cold t =
+      take-set-le m front m (getD seen i 0) (omega arith) ∙ inv
+      ∙ sym (rw (take-next seen i 0 hi, filter-append w (take i seen) (getD seen i 0 ∷ []), filter-none w (getD seen i 0) t) (append-nil (filter w (take i seen))))
 
-    pub front-cold : w (getD seen i 0) ≡ false → take m front ≡ filter w (take (i + 1) seen)
-    front-cold t =
-        inv ∙ sym (rw (take-next seen i 0 hi, filter-append w (take i seen) (getD seen i 0 ∷ []), filter-none w (getD seen i 0) t) (append-nil (filter w (take i seen))))
+-- ---- counting at a detector
 
--- the same, where what is written is not kept
-pub front-skip : (seen : List ℕ) (i : ℕ) → i < length seen → (w : ℕ → Bool) (m : ℕ) (front : List ℕ) → take m front ≡ filter w (take i seen)
-    → w (getD seen i 0) ≡ false → take m (set front m (getD seen i 0)) ≡ filter w (take (i + 1) seen)
-front-skip seen i hi w m front inv t = take-set-le m front m (getD seen i 0) (omega arith) ∙ front-cold seen i hi w m front inv t
-
--- ---- open edges
-
-open-hit : (j m r o : Bool) → (j ≡ true → o ≡ true) → ((m || j) || (r && o)) ≡ (m || ((j || r) && o))
-open-hit true true r o h = refl
-open-hit true false r o h = rw (h refl)
-open-hit false true r o h = refl
-open-hit false false r o h = refl
-
-open-miss : (j m r o : Bool) → (j ≡ true → o ≡ false) → (m || (r && o)) ≡ (m || ((j || r) && o))
-open-miss true m true o h = refl
-open-miss true m false o h = rw (h refl)
-open-miss false m r o h = refl
-
-or-true : (a : Bool) → (a || true) ≡ true
-or-true true = refl
-or-true false = refl
-
-module _ (adj : List ℕ) (k end : ℕ) (hk : k < end) (he : end ≤ length adj) (sat : List Bool) where
-  abbrev o : ℕ → Bool
-  o e = not (getD sat e false)
-
-  module _ (bits : List ℕ) (R : ℕ → Bool) (inv : (j : ℕ) → (bit bits j || (member j (slice k end adj) && o j)) ≡ R j) where
-    pub marks-shut : getD sat (getD adj k 0) false ≡ true → (j : ℕ) → (bit bits j || (member j (slice (k + 1) end adj) && o j)) ≡ R j
-    unfolding member
-    marks-shut s j =
-        let e = getD adj k 0 in
-        open-miss (eqb j e) (bit bits j) (member j (slice (k + 1) end adj)) (o j) (λ t. rw (eqb-true j e t, s)) ∙ (rw (slice-next k end adj hk he) at (inv j))
-
-    pub marks-open : getD sat (getD adj k 0) false ≡ false → (bits′ : List ℕ) → ((j : ℕ) → bit bits′ j ≡ (bit bits j || eqb j (getD adj k 0)))
-        → (j : ℕ) → (bit bits′ j || (member j (slice (k + 1) end adj) && o j)) ≡ R j
-    unfolding member
-    marks-open s bits′ h j =
-        let e = getD adj k 0 in
-        rw (h j) (open-hit (eqb j e) (bit bits j) (member j (slice (k + 1) end adj)) (o j) (λ t. rw (eqb-true j e t, s)) ∙ (rw (slice-next k end adj hk he) at (inv j)))
-
-  module _ (found R : Bool) (inv : (found || any o (slice k end adj)) ≡ R) where
-    pub found-shut : getD sat (getD adj k 0) false ≡ true → (found || any o (slice (k + 1) end adj)) ≡ R
-    unfolding any
-    found-shut s = rw (slice-next k end adj hk he, s) at inv
-
-    pub found-open : getD sat (getD adj k 0) false ≡ false → (true || any o (slice (k + 1) end adj)) ≡ R
-    unfolding any
-    found-open s = sym (or-true found) ∙ (rw (slice-next k end adj hk he, s) at inv)
-
--- ---- counting
-
-regroup : (m p a f : Bool) → ((m || (p && f)) || (a && f)) ≡ (m || ((p || a) && f))
-regroup true p a f = refl
-regroup false true true f = or-self f
-  where
-    or-self : (f : Bool) → (f || f) ≡ f
-    or-self true = refl
-    or-self false = refl
-regroup false true false f = or-false f
-regroup false false a f = refl
-
-free-hit : (q f a : Bool) → ((q || f) || a) ≡ (f || ((q && true) || a))
-free-hit true true a = refl
-free-hit true false a = refl
-free-hit false f a = refl
-
-and-no : (q : Bool) → (q && false) ≡ false
-and-no true = refl
-and-no false = refl
-
-module _ (front : List ℕ) (i m : ℕ) (hi : i < m) (hm : m ≤ length front) where
-  pub count-marks : (p : ℕ → ℕ → Bool) (f : ℕ → Bool) (b b′ R : ℕ → Bool)
-      → ((j : ℕ) → (b j || (any (λ x. p j x) (slice i m front) && f j)) ≡ R j)
-      → ((j : ℕ) → b′ j ≡ (b j || (p j (getD front i 0) && f j)))
-      → (j : ℕ) → (b′ j || (any (λ x. p j x) (slice (i + 1) m front) && f j)) ≡ R j
-  unfolding any
-  count-marks p f b b′ R inv h j =
-      rw (h j) (regroup (b j) (p j (getD front i 0)) (any (λ x. p j x) (slice (i + 1) m front)) (f j) ∙ (rw (slice-next i m front hi hm) at (inv j)))
-
-  pub free-turn : (l : ℕ → ℕ) (o : ℕ → Bool) (r : ℕ) (f f′ R : Bool)
-      → (f || any (λ x. eqb (l x) r && o x) (slice i m front)) ≡ R
-      → ((o (getD front i 0) ≡ true) × (f′ ≡ (eqb (l (getD front i 0)) r || f))) → (f′ || any (λ x. eqb (l x) r && o x) (slice (i + 1) m front)) ≡ R
-  unfolding any
-  free-turn l o r f f′ R inv h =
-      rw (h .1) (free-hit (eqb (l (getD front i 0)) r) f (any (λ x. eqb (l x) r && o x) (slice (i + 1) m front)) ∙ (rw (slice-next i m front hi hm, h .0) at inv))
-
-  pub free-still : (l : ℕ → ℕ) (o : ℕ → Bool) (r : ℕ) (f R : Bool)
-      → (f || any (λ x. eqb (l x) r && o x) (slice i m front)) ≡ R
-      → o (getD front i 0) ≡ false → (f || any (λ x. eqb (l x) r && o x) (slice (i + 1) m front)) ≡ R
-  unfolding any
-  free-still l o r f R inv h = rw (slice-next i m front hi hm, h, and-no (eqb (l (getD front i 0)) r)) at inv
-
--- ---- live ends
-
-pub byte-one : (b : Bool) → boolByte b ≡ one b
+byte-one : (b : Bool) → boolByte b ≡ one b
 byte-one true = refl
 byte-one false = refl
 
-pub byte-small : (b : Bool) → boolByte b ≤ 1
-byte-small true = omega arith
-byte-small false = omega arith
+-- at most 1, whatever the test is
+pub byte-low : (b : Bool) → boolByte b ≡ min (one b) 1
+byte-low true = refl
+byte-low false = refl
 
-pub true-or : (p q : Bool) → cond p true q ≡ (p || q)
-true-or true q = refl
-true-or false q = refl
+-- v is written past what is listed; h makes what is written of what is listed
+listed : (h : List ℕ → List ℕ) (e v : ℕ) (rest : List ℕ) → h (e ∷ rest) ≡ v ∷ h rest → (out : List ℕ) (at : ℕ) → at < length out → (b : Bool)
+    → take (at + boolByte b) (set out at v) ++ h rest ≡ take at out ++ h (cond b (e ∷ rest) rest)
+listed h e v rest q out at k true = rw (put-next out at v k, q) (append-assoc (take at out) (v ∷ []) (h rest))
+listed h e v rest q out at k false = rw (add-zero at, take-set-le at out at v (omega arith))
+
+one-more : (at e : ℕ) (rest : List ℕ) (b : Bool) → at + boolByte b + length rest ≡ at + length (cond b (e ∷ rest) rest)
+one-more at e rest true = omega arith
+one-more at e rest false = omega arith
+
+module _ (d : ℕ) (us vs parent : List ℕ) (sat hot : List Bool) (x : ℕ) where
+  -- the live ends of e, of which x is one
+  abbrev liveEnds : ℕ → ℕ
+  liveEnds e = 1 + one (farLive d us vs parent sat hot x e)
+
+  -- what is listed before `at`, and what is to be listed of the edges es, is the answer
+  pub record Listing (touched₀ cnt₀ : List ℕ) (from : ℕ) (touched cnt : List ℕ) (at : ℕ) (found : Bool) (es : List ℕ) : Type 0 where
+    pub long : length touched ≡ length touched₀
+    pub longs : length cnt ≡ length cnt₀
+    pub past : at + length (filter (takes d us vs parent sat hot x) es) ≡ from + length (takenAt d us vs parent sat hot x)
+    pub lists : take at touched ++ filter (takes d us vs parent sat hot x) es ≡ take from touched₀ ++ takenAt d us vs parent sat hot x
+    pub counts : take at cnt ++ map liveEnds (filter (takes d us vs parent sat hot x) es) ≡ take from cnt₀ ++ countsAt d us vs parent sat hot x
+    pub finds : (found || any (isFree sat) es) ≡ any (isFree sat) (star us vs x)
+
+module _ {d : ℕ} {us vs parent : List ℕ} {sat hot : List Bool} {x : ℕ} {touched₀ cnt₀ : List ℕ} {from : ℕ} {touched cnt : List ℕ} {at : ℕ} {found : Bool} where
+  -- y is the other end of e, and q the detector that is read for it
+  pub listing-turn : {e : ℕ} {es : List ℕ} → Listing d us vs parent sat hot x touched₀ cnt₀ from touched cnt at found (e ∷ es) → at < length touched → at < length cnt
+      → {y q : ℕ} → y ≡ beyond us vs d x e → q ≡ cond (eqb y d) x y
+      → Listing d us vs parent sat hot x touched₀ cnt₀ from (set touched at e)
+      (set cnt at (1 + boolByte (not (eqb y d) && getD hot (getD parent q 0) false)))
+      (at + boolByte (isFree sat e && (not (not (eqb y d) && getD hot (getD parent q 0) false) || ltb x y)))
+      (found || isFree sat e) es
+  unfolding filter any
+  listing-turn {e} {es} l ht hc {y} {q} is near =
+      let ends = liveEnds d us vs parent sat hot x in
+      let b = takes d us vs parent sat hot x e in
+      let rest = filter (takes d us vs parent sat hot x) es in
+      rw (live, byte-one (farLive d us vs parent sat hot x e), is) (record {
+        long = simp length-set (l .long);
+        longs = simp length-set (l .longs);
+        past = one-more at e rest b ∙ l .past;
+        lists = listed (λ r. r) e e rest refl touched at ht b ∙ l .lists;
+        counts = listed (map ends) e (ends e) rest refl cnt at hc b ∙ l .counts;
+        finds = or-assoc found (isFree sat e) (any (isFree sat) es) ∙ l .finds;
+      })
+    where
+      live : (not (eqb y d) && getD hot (getD parent q 0) false) ≡ farLive d us vs parent sat hot x e
+      live = rw (near, ← is) (case-of (eqb y d) (λ t. rw t) (λ f. rw f))
+
+  pub counted : Listing d us vs parent sat hot x touched₀ cnt₀ from touched cnt at found [] → {free free′ : List Bool} → free′ ≡ cond found (set free (getD parent x 0) true) free
+      → CountedAt d us vs parent sat hot free x touched₀ cnt₀ from free′ touched cnt at
+  unfolding filter any
+  counted l {free} {free′} q = record {
+    past = omega (arith, l .past);
+    lists = sym (append-nil (take at touched)) ∙ l .lists;
+    counts = sym (append-nil (take at cnt)) ∙ l .counts;
+    frees = q ∙ ap (λ b. cond b (set free (getD parent x 0) true) free) (sym (or-false found) ∙ l .finds);
+  }
+
+-- the edge at place k, and its other end
+module _ {d : ℕ} {us vs off adj far parent : List ℕ} {sat hot free : List Bool} (t : Tabled d us vs off adj far parent sat hot free)
+    {x : ℕ} (hx : x < d) {k : ℕ} (lo : getD off x 0 ≤ k) (hi : k < getD off (x + 1) 0) where
+  pub edge-in : getD adj k 0 < length us
+  edge-in = adj-inside (t .adjacent) x hx k lo hi
+
+  pub far-is : getD far k 0 ≡ beyond us vs d x (getD adj k 0)
+  far-is = slice-map (beyond us vs d x) (getD off x 0) (getD off (x + 1) 0) k adj far
+      (rw add-one (t .adjacent .others x hx ∙ sym (ap (map (beyond us vs d x)) (t .adjacent .edges x hx)))) lo hi (adj-ends (t .adjacent) x hx)
+
+  -- a detector or the boundary
+  far-in : (getD far k 0 < d) ⊎ (getD far k 0 ≡ d)
+  far-in =
+      let e = getD adj k 0 in
+      let ok = t .ends in
+      rw far-is (case-of (eqb (getD us e boundary) x)
+      (λ q. case-of (eqb (getD vs e boundary) boundary) (λ r. inr (rw (q, r))) (λ r. inl (rw (q, r) (ok .paired e edge-in (rw r) .1))))
+      (λ q. inl (rw q (ok .inside e edge-in))))
+
+  pub far-le : getD far k 0 ≤ d
+  far-le = ⊎-elim (λ h. omega arith) (λ q. omega arith) far-in
+
+  -- the detector that is read for it
+  pub near-in : {q : ℕ} → q ≡ cond (eqb (getD far k 0) d) x (getD far k 0) → q < d
+  near-in near = rw near (case-of (eqb (getD far k 0) d)
+      (λ q. rw q hx)
+      (λ q. rw q (⊎-elim (λ h. h) (λ r. absurd (eqb-false (getD far k 0) d q r)) far-in)))
+
+-- ---- counting in the front
+
+free-or : (q f : Bool) → cond q true f ≡ (f || (q && true))
+free-or true true = refl
+free-or true false = refl
+free-or false f = sym (or-false f)
+
+-- the cluster p is free too, if b
+freed-at : (free : List Bool) (p : ℕ) → p < length free → (b : Bool) (r : ℕ) → getD (cond b (set free p true) free) r false ≡ (getD free r false || (eqb p r && b))
+freed-at free p h true r = set-bool free p true r h ∙ rw (eqb-comm r p) (free-or (eqb p r) (getD free r false))
+freed-at free p h false r = rw (and-false (eqb p r), or-false (getD free r false))
+
+module _ (d : ℕ) (us vs parent : List ℕ) (sat hot : List Bool) where
+  -- x points at r and has an open edge
+  abbrev frees : ℕ → ℕ → Bool
+  frees r x = eqb (getD parent x 0) r && any (isFree sat) (star us vs x)
+
+  -- what is listed before `at`, and what is to be listed at the detectors xs, is the answer for the detectors ys
+  pub record Gathering (ys : List ℕ) (free₀ : List Bool) (touched₀ cnt₀ : List ℕ) (free : List Bool) (touched cnt : List ℕ) (at : ℕ) (xs : List ℕ) : Type 0 where
+    pub same : length free ≡ length free₀
+    pub long : length touched ≡ length touched₀
+    pub longs : length cnt ≡ length cnt₀
+    pub past : at + length (takenIn d us vs parent sat hot xs) ≡ length (takenIn d us vs parent sat hot ys)
+    pub lists : take at touched ++ takenIn d us vs parent sat hot xs ≡ takenIn d us vs parent sat hot ys
+    pub counts : take at cnt ++ countsIn d us vs parent sat hot xs ≡ countsIn d us vs parent sat hot ys
+    pub freed : (r : ℕ) → (getD free r false || any (frees r) xs) ≡ (getD free₀ r false || any (frees r) ys)
+
+module _ {d : ℕ} {us vs parent : List ℕ} {sat hot : List Bool} {ys : List ℕ} {free₀ : List Bool} {touched₀ cnt₀ : List ℕ} {free : List Bool} {touched cnt : List ℕ} {at x : ℕ} {xs : List ℕ}
+    (g : Gathering d us vs parent sat hot ys free₀ touched₀ cnt₀ free touched cnt at (x ∷ xs)) where
+  pub taken-room : at + length (takenAt d us vs parent sat hot x) ≤ length (takenIn d us vs parent sat hot ys)
+  unfolding takenIn
+  taken-room = omega (arith, g .past, length-append (takenAt d us vs parent sat hot x) (takenIn d us vs parent sat hot xs))
+
+  pub gathering-turn : {free′ : List Bool} {touched′ cnt′ : List ℕ} {to : ℕ} → length free′ ≡ length free → length touched′ ≡ length touched → length cnt′ ≡ length cnt
+      → getD parent x 0 < length free → CountedAt d us vs parent sat hot free x touched cnt at free′ touched′ cnt′ to
+      → Gathering d us vs parent sat hot ys free₀ touched₀ cnt₀ free′ touched′ cnt′ to xs
+  unfolding takenIn countsIn any
+  gathering-turn lf lt lc h c =
+      let es = takenAt d us vs parent sat hot x in
+      let ns = countsAt d us vs parent sat hot x in
+      record {
+        same = lf ∙ g .same;
+        long = lt ∙ g .long;
+        longs = lc ∙ g .longs;
+        past = omega (arith, g .past, c .past, length-append es (takenIn d us vs parent sat hot xs));
+        lists = rw (c .lists) (append-assoc (take at touched) es (takenIn d us vs parent sat hot xs) ∙ g .lists);
+        counts = rw (c .counts) (append-assoc (take at cnt) ns (countsIn d us vs parent sat hot xs) ∙ g .counts);
+        freed = λ r. rw (c .frees, freed-at free (getD parent x 0) h (any (isFree sat) (star us vs x)) r)
+            (or-assoc (getD free r false) (frees d us vs parent sat hot r x) (any (frees d us vs parent sat hot r) xs) ∙ g .freed r);
+      }
+
+pub gathered : {d : ℕ} {us vs parent : List ℕ} {sat hot : List Bool} {front : List ℕ} {m : ℕ} {free₀ : List Bool} {touched₀ cnt₀ : List ℕ} {free : List Bool} {touched cnt : List ℕ} {at : ℕ}
+    → Gathering d us vs parent sat hot (take m front) free₀ touched₀ cnt₀ free touched cnt at [] → Counted d us vs front m parent sat hot free₀ free touched cnt at
+unfolding takenIn countsIn any
+gathered {free} {touched} {cnt} {at} g = record {
+  many = omega (arith, g .past);
+  lists = sym (append-nil (take at touched)) ∙ g .lists;
+  counts = sym (append-nil (take at cnt)) ∙ g .counts;
+  frees = λ r h. sym (or-false (getD free r false)) ∙ g .freed r;
+}
 
 -- ---- folds over the edges touched
 
 module _ (touched cnt : List ℕ) (i m : ℕ) (hi : i < m) (ht : m ≤ length touched) (hc : m ≤ length cnt) where
-  pub least-turn : (w g : List Float) (b : Least)
+  pub least-turn : (w g : List Float) (b : Float)
       → leastIn w g b (slice i m touched) (slice i m cnt)
-      ≡ leastIn w g (lesserOf b (getD touched i 0) (stepFrom (getD w (getD touched i 0) nan) (getD g (getD touched i 0) nan) (getD cnt i 0))) (slice (i + 1) m touched) (slice (i + 1) m cnt)
+      ≡ leastIn w g (lesserOf b (stepFrom (getD w (getD touched i 0) nan) (getD g (getD touched i 0) nan) (getD cnt i 0))) (slice (i + 1) m touched) (slice (i + 1) m cnt)
   unfolding leastIn
   least-turn w g b = rw (slice-next i m touched hi ht, slice-next i m cnt hi hc)
 
@@ -169,30 +213,24 @@ module _ (touched cnt : List ℕ) (i m : ℕ) (hi : i < m) (ht : m ≤ length to
   unfolding growIn
   grow-turn step g = rw (slice-next i m touched hi ht, slice-next i m cnt hi hc)
 
-  -- k of those before are written; one more saturates, or none
-  module _ (edge : ℕ) (step : Float) (w g : List Float) (k : ℕ) (fresh R : List ℕ) (inv : take k fresh ++ ripeIn edge step w g (slice i m touched) (slice i m cnt) ≡ R) (now : Float)
-      (is : now ≡ movedBy step (getD g (getD touched i 0) nan) (getD cnt i 0)) where
-    pub ripe-turn : k < length fresh → reachesFrom (getD touched i 0) edge (getD w (getD touched i 0) nan) now ≡ true
-        → take (k + 1) (set fresh k (getD touched i 0)) ++ ripeIn edge step w (set g (getD touched i 0) now) (slice (i + 1) m touched) (slice (i + 1) m cnt) ≡ R
-    unfolding ripeIn
-    ripe-turn h t =
-        rw (put-next fresh k (getD touched i 0) h, is) (append-assoc (take k fresh) (getD touched i 0 ∷ []) _
-        ∙ (rw (slice-next i m touched hi ht, slice-next i m cnt hi hc, rw is at t) at inv))
+  -- k of those before are written, and one more if it saturates
+  pub ripe-turn : (step : Float) (w g : List Float) (k : ℕ) (fresh : List ℕ) → k < length fresh → (now : Float) → now ≡ movedBy step (getD g (getD touched i 0) nan) (getD cnt i 0)
+      → (done : Bool) → done ≡ reachesFrom (getD w (getD touched i 0) nan) now
+      → take (k + boolByte done) (set fresh k (getD touched i 0)) ++ ripeIn step w (set g (getD touched i 0) now) (slice (i + 1) m touched) (slice (i + 1) m cnt)
+      ≡ take k fresh ++ ripeIn step w g (slice i m touched) (slice i m cnt)
+  unfolding ripeIn
+  ripe-turn step w g k fresh h now is done reaches =
+      let e = getD touched i 0 in
+      listed (λ r. r) e e (ripeIn step w (set g e now) (slice (i + 1) m touched) (slice (i + 1) m cnt)) refl fresh k h done
+      ∙ rw (slice-next i m touched hi ht, slice-next i m cnt hi hc, reaches, is)
 
-    pub ripe-skip : reachesFrom (getD touched i 0) edge (getD w (getD touched i 0) nan) now ≡ false
-        → take k (set fresh k (getD touched i 0)) ++ ripeIn edge step w (set g (getD touched i 0) now) (slice (i + 1) m touched) (slice (i + 1) m cnt) ≡ R
-    unfolding ripeIn
-    ripe-skip t =
-        rw (take-set-le k fresh k (getD touched i 0) (omega arith), is)
-        (rw (slice-next i m touched hi ht, slice-next i m cnt hi hc, rw is at t) at inv)
-
-pub least-end : (w g : List Float) (b : Least) (touched cnt : List ℕ) (m : ℕ) → leastIn w g b (slice m m touched) (slice m m cnt) ≡ b
+pub least-end : (w g : List Float) (b : Float) (touched cnt : List ℕ) (m : ℕ) → leastIn w g b (slice m m touched) (slice m m cnt) ≡ b
 unfolding leastIn
 least-end w g b touched cnt m = rw (slice-empty m touched)
 
-pub ripe-end : (edge : ℕ) (step : Float) (w g : List Float) (l touched cnt : List ℕ) (m : ℕ) → l ++ ripeIn edge step w g (slice m m touched) (slice m m cnt) ≡ l
+pub ripe-end : (step : Float) (w g : List Float) (l touched cnt : List ℕ) (m : ℕ) → l ++ ripeIn step w g (slice m m touched) (slice m m cnt) ≡ l
 unfolding ripeIn
-ripe-end edge step w g l touched cnt m = rw (slice-empty m touched) (append-nil l)
+ripe-end step w g l touched cnt m = rw (slice-empty m touched) (append-nil l)
 
 pub grow-end : (step : Float) (g : List Float) (touched cnt : List ℕ) (m : ℕ) → growIn step g (slice m m touched) (slice m m cnt) ≡ g
 unfolding growIn

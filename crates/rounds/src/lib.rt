@@ -1,29 +1,25 @@
 // The passes of a round, one loop each.
-ghost use Prim.Native.Nat.{ℕ, zero, suc, _+_, _*_, _<_, _≤_, _^_};
+ghost use Prim.Native.Nat.{_+_, _*_, _<_, _≤_};
 ghost use mathlib.Core.Path.{_≡_};
-ghost use mathlib.Core.Bool.{Bool, true, false, not, _&&_};
-ghost use lib.ListN.{length, getD, take};
-ghost use lib.Seq.{slice};
+ghost use mathlib.Core.Bool.{true, false, cond};
+ghost use lib.ListN.{length, take};
 ghost use lib.Dec.{eqb};
-ghost use Rattle.lists.specs.Lists.{any, filter};
-ghost use Rattle.forest.specs.Forest.{Down};
-ghost use Rattle.adjacency.specs.Adjacent.{Adjacent};
-ghost use Rattle.rounds.specs.Passes.{Fronting, Fronted, Opening, Opened, Counting, Marked, liveEnds, TakingWord, TakenWord, Taking, Taken, Checking, firstShut, stepFrom, leastOfBest, lesserOf, noneYet, Growing, leastIn, movedBy, reachesFrom, Ripened};
+ghost use lib.Ieee.{inf};
+ghost use Rattle.rounds.specs.Passes.{Fronting, Fronted, Tabled, takenAt, CountedAt, Counting, Counted, Checking, firstShut, shareOf, stepFrom, lesserOf, Growing, leastIn, movedBy, reachesFrom, Ripened};
 
 const BOUNDARY: u32 = 4294967295;
 
-// Says of each of the n detectors seen whether its cluster is active, and lists those whose cluster is.
+// Lists those of the n detectors seen whose cluster is active. Each that is seen is left pointing at its root.
 pub fn front(
     d: usize,
     seen: &[u32],
     n: usize,
     parent: &mut [u32],
     hot: &[bool],
-    live: &mut [bool],
     front: &mut [u32],
 ) -> usize
-    requires { ⌜ Fronting d (now seen) n (now parent) (now hot) (now live) (now front) ⌝ }
-    ensures { λ r. ⌜ Fronted d (now (seen .entry)) n (now (parent .entry)) (now (hot .entry)) (now (live .entry)) (now (parent .exit)) (now (live .exit)) (now (front .exit)) r ⌝ }
+    requires { ⌜ Fronting d (now seen) n (now parent) (now hot) (now front) ⌝ }
+    ensures { λ r. ⌜ Fronted d (now (seen .entry)) n (now (parent .entry)) (now (hot .entry)) (now (parent .exit)) (now (front .exit)) r ⌝ }
 {
     let mut m = 0;
     let mut i = 0;
@@ -32,7 +28,6 @@ pub fn front(
         i += 1;
         let r = forest::compress(d, parent, x);
         let h = hot[r];
-        live[x] = h;
         front[m] = x as u32;
         if h {
             m += 1;
@@ -41,124 +36,98 @@ pub fn front(
     m
 }
 
-// Marks the open edges among those listed, and says whether there is one.
-pub fn open_edges(
-    adj_edge: &[u32],
-    start: usize,
-    end: usize,
-    sat: &[bool],
-    bits: &mut [u64],
-) -> bool
-    requires { ⌜ Opening (now «adj_edge») start end (now sat) (now bits) ⌝ }
-    ensures { λ r. ⌜ Opened (now («adj_edge» .entry)) start end (now (sat .entry)) (now (bits .entry)) (now (bits .exit)) r ⌝ }
+// The end y of an edge of x where it is a detector; x where it is the boundary, which is d.
+pub fn detector_at(d: usize, x: u32, y: u32) -> u32
+    ensures { λ r. ⌜ r ≡ cond (eqb y d) x y ⌝ }
 {
-    let mut found = false;
-    let mut k = start;
-    while k < end {
-        let e = adj_edge[k] as usize;
-        k += 1;
-        let s = sat[e];
-        if s {
-            continue;
-        }
-        found = true;
-        bits::set(bits, e);
-    }
-    found
+    if y as usize == d { x } else { y }
 }
 
-// Marks the open edges of the m detectors, and frees the cluster of each that has one.
-pub fn count(
+// Lists the open edges of the live detector x from `from` on, beside each the count of its live ends, frees the cluster of x if there is one, and returns the place past them. An edge whose other end is live too is listed at the lower of the two. Each edge is written before it is known whether it is listed, since that cannot be foretold. Long for its parameters, one a line.
+pub fn count_at(
+    free: &mut [bool],
+    touched: &mut [u32],
+    cnt: &mut [u8],
     d: usize,
     edge_u: &[u32],
     edge_v: &[u32],
-    front: &[u32],
-    m: usize,
     adj_offsets: &[u32],
     adj_edge: &[u32],
     far: &[u32],
     parent: &[u32],
     sat: &[bool],
-    free: &mut [bool],
-    bits: &mut [u64],
-)
-    requires { ⌜ Counting d (now «edge_u») (now «edge_v») (now front) m (now «adj_offsets») (now «adj_edge») (now far) (now parent) (now sat) (now free) (now bits) ⌝ }
-    ensures { λ _. ⌜ Marked d (now («edge_u» .entry)) (now («edge_v» .entry)) (now (front .entry)) m (now (parent .entry)) (now (sat .entry)) (now (free .entry)) (now (bits .entry)) (now (free .exit)) (now (bits .exit)) ⌝ }
-{
-    let mut i = 0;
-    while i < m {
-        let x = front[i] as usize;
-        i += 1;
-        let start = adj_offsets[x] as usize;
-        let end = adj_offsets[x + 1] as usize;
-        let found = open_edges(adj_edge, start, end, sat, bits);
-        if found {
-            let r = forest::find_plain(d, parent, x);
-            free[r] = true;
-        }
-    }
-}
-
-// How many of the two ends are live.
-pub fn live_ends(live: &[bool], a: u32, b: u32) -> u8
-    requires { ⌜ a < length (now live) ⌝ }
-    requires { ⌜ ((b ≡ 4294967295 → ⊥) → b < length (now live)) ⌝ }
-    ensures { λ r. ⌜ r ≡ liveEnds (now (live .entry)) a b ⌝ }
-{
-    let near = live[a as usize];
-    if b == BOUNDARY {
-        return near as u8;
-    }
-    let far = live[b as usize];
-    near as u8 + far as u8
-}
-
-// Takes the edges of a word, whose bit 0 is edge base: lists them from `from` on, beside each its count, and returns the place past them.
-fn take_word(
-    word: u64,
-    base: u32,
-    edge_u: &[u32],
-    edge_v: &[u32],
-    live: &[bool],
-    touched: &mut [u32],
-    cnt: &mut [u8],
+    hot: &[bool],
+    x: u32,
     from: usize,
 ) -> usize
-    requires { ⌜ TakingWord (now «edge_u») (now «edge_v») (now live) base word (now touched) (now cnt) from ⌝ }
-    ensures { λ r. ⌜ TakenWord (now («edge_u» .entry)) (now («edge_v» .entry)) (now (live .entry)) base word (now (touched .entry)) (now (cnt .entry)) from (now (touched .exit)) (now (cnt .exit)) r ⌝ }
+    requires { ⌜ Tabled d (now «edge_u») (now «edge_v») (now «adj_offsets») (now «adj_edge») (now far) (now parent) (now sat) (now hot) (now free) ⌝ }
+    requires { ⌜ x < d ⌝ }
+    requires { ⌜ from + length (takenAt d (now «edge_u») (now «edge_v») (now parent) (now sat) (now hot) x) < length (now touched) ⌝ }
+    requires { ⌜ from + length (takenAt d (now «edge_u») (now «edge_v») (now parent) (now sat) (now hot) x) < length (now cnt) ⌝ }
+    ensures { λ r. ⌜ CountedAt d (now («edge_u» .entry)) (now («edge_v» .entry)) (now (parent .entry)) (now (sat .entry)) (now (hot .entry)) (now (free .entry)) x (now (touched .entry)) (now (cnt .entry)) from (now (free .exit)) (now (touched .exit)) (now (cnt .exit)) r ⌝ }
 {
-    let mut left = word;
+    let r = parent[x as usize];
+    let end = adj_offsets[x as usize + 1] as usize;
+    let mut k = adj_offsets[x as usize] as usize;
     let mut at = from;
-    while left != 0 {
-        let e = base + u64::trailing_zeros(left);
+    let mut found = false;
+    while k < end {
+        let e = adj_edge[k];
+        let y = far[k];
+        k += 1;
+        let q = parent[detector_at(d, x, y) as usize];
+        let live = (y as usize != d) & hot[q as usize];
+        let open = !sat[e as usize];
+        found = found | open;
         touched[at] = e;
-        cnt[at] = live_ends(live, edge_u[e as usize], edge_v[e as usize]);
-        at += 1;
-        left = left & (left - 1);
+        cnt[at] = 1 + live as u8;
+        at += (open & (!live | (x < y))) as usize;
+    }
+    if found {
+        free[r as usize] = true;
     }
     at
 }
 
-// Takes the marked edges: lists them, ascending, beside each the count of its live ends, and returns how many there are. It clears each word as it goes, so that the marks are walked once a round.
-pub fn take(
+// Step 1: the counted edges, beside each its count, in the order of the m live detectors; their clusters that have one are free. Returns how many there are. Long for its parameters, one a line.
+pub fn count(
+    free: &mut [bool],
+    touched: &mut [u32],
+    cnt: &mut [u8],
     d: usize,
     edge_u: &[u32],
     edge_v: &[u32],
-    live: &[bool],
-    bits: &mut [u64],
-    touched: &mut [u32],
-    cnt: &mut [u8],
+    adj_offsets: &[u32],
+    adj_edge: &[u32],
+    far: &[u32],
+    parent: &[u32],
+    sat: &[bool],
+    hot: &[bool],
+    front: &[u32],
+    m: usize,
 ) -> usize
-    requires { ⌜ Taking d (now «edge_u») (now «edge_v») (now live) (now bits) (now touched) (now cnt) ⌝ }
-    ensures { λ r. ⌜ Taken (now («edge_u» .entry)) (now («edge_v» .entry)) (now (live .entry)) (now (bits .entry)) (now (touched .entry)) (now (bits .exit)) (now (touched .exit)) (now (cnt .exit)) r ⌝ }
+    requires { ⌜ Counting d (now «edge_u») (now «edge_v») (now front) m (now «adj_offsets») (now «adj_edge») (now far) (now parent) (now sat) (now hot) (now free) (now touched) (now cnt) ⌝ }
+    ensures { λ r. ⌜ Counted d (now («edge_u» .entry)) (now («edge_v» .entry)) (now (front .entry)) m (now (parent .entry)) (now (sat .entry)) (now (hot .entry)) (now (free .entry)) (now (free .exit)) (now (touched .exit)) (now (cnt .exit)) r ⌝ }
 {
-    let mut i = 0;
     let mut at = 0;
-    while i < bits.len() {
-        let word = bits[i];
-        let base = (i * 64) as u32;
-        bits[i] = 0;
-        at = take_word(word, base, edge_u, edge_v, live, touched, cnt, at);
+    let mut i = 0;
+    while i < m {
+        at = count_at(
+            free,
+            touched,
+            cnt,
+            d,
+            edge_u,
+            edge_v,
+            adj_offsets,
+            adj_edge,
+            far,
+            parent,
+            sat,
+            hot,
+            front[i],
+            at,
+        );
         i += 1;
     }
     at
@@ -182,97 +151,71 @@ pub fn stuck(active: &[u32], a: usize, free: &[bool]) -> u32
     BOUNDARY
 }
 
-// The edge of the least step so far, and the step.
-pub struct Best {
-    pub edge: u32,
-    pub step: f64,
+// What a difference is multiplied by for n ends: 1, or a half for 2.
+pub fn share(n: u8) -> f64
+    ensures { λ r. ⌜ r ≡ shareOf n ⌝ }
+{
+    if n == 2 { 0.5 } else { 1.0 }
 }
 
-// The increment that an edge of weight w and growth g gives, with n ends counted.
+// The increment that an edge of weight w and growth g gives, with n ends counted. A half is exact, so the product is the quotient by n.
 pub fn step_at(w: f64, g: f64, n: u8) -> f64
     ensures { λ r. ⌜ r ≡ stepFrom w g n ⌝ }
 {
-    (w - g) / (n as f64)
+    (w - g) * share(n)
 }
 
-// The lesser of the best so far and the edge e with the step s.
-pub fn lesser(b: Best, e: u32, s: f64) -> Best
-    ensures { λ r. ⌜ leastOfBest r ≡ lesserOf (leastOfBest b) e s ⌝ }
+// The lesser of two steps.
+pub fn lesser(b: f64, s: f64) -> f64
+    ensures { λ r. ⌜ r ≡ lesserOf b s ⌝ }
 {
-    if s < b.step {
-        Best { edge: e, step: s }
-    } else {
-        b
-    }
+    if s < b { s } else { b }
 }
 
-// No step yet; the edge is the first of the m.
-pub fn no_best(touched: &[u32], m: usize) -> Best
-    requires { ⌜ m ≤ length (now touched) ⌝ }
-    ensures { λ r. ⌜ leastOfBest r ≡ noneYet (take m (now (touched .entry))) ⌝ }
-{
-    let step = f64::from_bits(9218868437227405312);
-    if m == 0 {
-        return Best {
-            edge: 0,
-            step: step,
-        };
-    }
-    let edge = touched[0];
-    Best {
-        edge: edge,
-        step: step,
-    }
-}
-
-// The least step of the m edges, and the first of them that has it.
-pub fn least(touched: &[u32], cnt: &[u8], m: usize, edge_weight: &[f64], growth: &[f64]) -> Best
+// Step 2: the least step of the m edges; infinity where there is none. The edge that gives it reaches its weight in step 3, so it is not kept.
+pub fn least(touched: &[u32], cnt: &[u8], m: usize, edge_weight: &[f64], growth: &[f64]) -> f64
     requires { ⌜ Growing (now touched) (now cnt) m (length (now «edge_weight»)) ⌝ }
     requires { ⌜ length (now growth) ≡ length (now «edge_weight») ⌝ }
-    ensures { λ r. ⌜ leastOfBest r ≡ leastIn (now («edge_weight» .entry)) (now (growth .entry)) (noneYet (take m (now (touched .entry)))) (take m (now (touched .entry))) (take m (now (cnt .entry))) ⌝ }
+    ensures { λ r. ⌜ r ≡ leastIn (now («edge_weight» .entry)) (now (growth .entry)) (inf false) (take m (now (touched .entry))) (take m (now (cnt .entry))) ⌝ }
 {
-    let mut b = no_best(touched, m);
+    let mut b = f64::from_bits(9218868437227405312);
     let mut i = 0;
     while i < m {
-        let e = touched[i];
-        let s = step_at(edge_weight[e as usize], growth[e as usize], cnt[i]);
-        b = lesser(b, e, s);
+        let x = touched[i] as usize;
+        let s = step_at(edge_weight[x], growth[x], cnt[i]);
+        b = lesser(b, s);
         i += 1;
     }
     b
 }
 
-// The growth g after the step, with n ends counted.
+// The growth g after the step, with n ends counted. A product, and no choice of two values, which would be a branch.
 pub fn moved(g: f64, n: u8, step: f64) -> f64
     ensures { λ r. ⌜ r ≡ movedBy step g n ⌝ }
 {
     g + (n as f64) * step
 }
 
-// Whether the edge e saturates: it is the edge of the least, or reaches its weight.
-pub fn reaches(e: u32, edge: u32, w: f64, g: f64) -> bool
-    ensures { λ r. ⌜ r ≡ reachesFrom e edge w g ⌝ }
+// Whether an edge of weight w and growth g saturates.
+pub fn reaches(w: f64, g: f64) -> bool
+    ensures { λ r. ⌜ r ≡ reachesFrom w g ⌝ }
 {
-    if e == edge {
-        return true;
-    }
     w <= g + 1e-9
 }
 
-// Moves the growth of the m edges on by the step, once for each end that is counted, and lists those that saturate: the edge of the least, and each that reaches its weight.
+// Step 3: moves the growth of the m edges on by the step, once for each end that is counted, and lists those that reach their weight. Each edge is written before it is known whether it is listed, since that cannot be foretold.
 pub fn grow(
     touched: &[u32],
     cnt: &[u8],
     m: usize,
     step: f64,
-    edge: u32,
     edge_weight: &[f64],
     growth: &mut [f64],
     fresh: &mut [u32],
 ) -> usize
     requires { ⌜ Growing (now touched) (now cnt) m (length (now «edge_weight»)) ⌝ }
     requires { ⌜ (length (now growth) ≡ length (now «edge_weight»)) × (m ≤ length (now fresh)) ⌝ }
-    ensures { λ r. ⌜ Ripened edge step (now («edge_weight» .entry)) (now (growth .entry)) (take m (now (touched .entry))) (take m (now (cnt .entry))) m (now (growth .exit)) (now (fresh .exit)) r ⌝ }
+    ensures { λ r. ⌜ Ripened step (now («edge_weight» .entry)) (now (growth .entry)) (take m (now (touched .entry))) (take m (now (cnt .entry))) m (now (growth .exit)) (now (fresh .exit)) r ⌝ }
 {
     let mut k = 0;
     let mut i = 0;
@@ -282,11 +225,9 @@ pub fn grow(
         let now = moved(growth[x], cnt[i], step);
         i += 1;
         growth[x] = now;
-        let done = reaches(e, edge, edge_weight[x], now);
+        let done = reaches(edge_weight[x], now);
         fresh[k] = e;
-        if done {
-            k += 1;
-        }
+        k += done as usize;
     }
     k
 }

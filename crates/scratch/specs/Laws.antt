@@ -1,8 +1,7 @@
 -- What long scratch slices leave true. Each statement is proved in proofs/ under the same name in small letters.
-use Prim.Native.Nat.{ℕ, _+_, _*_, _≤_}
+use Prim.Native.Nat.{ℕ, _+_, _*_, _<_, _≤_}
 use mathlib.Core.Path.{_≡_}
 use mathlib.Core.Bool.{true}
-use Rattle.bits.specs.Rows.{words}
 use Rattle.scratch.specs.declared.Lengths.{Lengths}
 use Rattle.scratch.specs.Scratch.{scratchLong}
 
@@ -15,8 +14,8 @@ pub record Long (D E : ℕ) (have : Lengths) : Type 0 where
   pub seen : D ≤ have .seen
   pub active : D ≤ have .active
   pub front : D ≤ have .front
-  pub touched : E ≤ have .touched
-  pub cnt : E ≤ have .cnt
+  pub touched : E < have .touched
+  pub cnt : E < have .cnt
   pub fresh : E ≤ have .fresh
   pub order-edge : D ≤ have .«order_edge»
   pub order-parent : D ≤ have .«order_parent»
@@ -29,8 +28,6 @@ pub record Long (D E : ℕ) (have : Lengths) : Type 0 where
   pub boundary-edge : D ≤ have .«boundary_edge»
   pub hot : D ≤ have .hot
   pub free : D ≤ have .free
-  pub live : D ≤ have .live
-  pub bits : words E ≤ have .bits
 
 abbrev pub ScratchLong : Type 0
 ScratchLong = (D E : ℕ) (have : Lengths) → scratchLong D E have ≡ true → Long D E have
@@ -59,8 +56,6 @@ each n = record {
   «boundary_edge» = n;
   hot = n;
   free = n;
-  live = n;
-  bits = n;
 }
 
 -- "for no slice above 64·(D + edges + 1) entries"

@@ -2,12 +2,11 @@
 use Prim.Native.Nat.{ℕ, _+_, _*_}
 use mathlib.Core.Bool.{Bool, _&&_}
 use lib.Dec.{leb}
-use Rattle.bits.specs.Rows.{words}
 use Rattle.scratch.specs.declared.Lengths.{Lengths}
 
 -- the lengths of slices, in the order of a call's parameters
-abbrev pub lengthsOf : ℕ → ℕ → ℕ → ℕ → ℕ → ℕ → ℕ → ℕ → ℕ → ℕ → ℕ → ℕ → ℕ → ℕ → ℕ → ℕ → ℕ → ℕ → ℕ → ℕ → ℕ → ℕ → ℕ → Lengths
-lengthsOf adj-offsets adj-edge adj-far defects seen active front touched cnt fresh order-edge order-parent lit growth sat known parent odd boundary-edge hot free live bits = record {
+abbrev pub lengthsOf : ℕ → ℕ → ℕ → ℕ → ℕ → ℕ → ℕ → ℕ → ℕ → ℕ → ℕ → ℕ → ℕ → ℕ → ℕ → ℕ → ℕ → ℕ → ℕ → ℕ → ℕ → Lengths
+lengthsOf adj-offsets adj-edge adj-far defects seen active front touched cnt fresh order-edge order-parent lit growth sat known parent odd boundary-edge hot free = record {
   «adj_offsets» = adj-offsets;
   «adj_edge» = adj-edge;
   «adj_far» = adj-far;
@@ -29,13 +28,10 @@ lengthsOf adj-offsets adj-edge adj-far defects seen active front touched cnt fre
   «boundary_edge» = boundary-edge;
   hot = hot;
   free = free;
-  live = live;
-  bits = bits;
 }
 
--- an entry for each detector or each edge, a bit for each edge, an offset for each detector and one past them, and both ends of each edge
+-- an entry for each detector or each edge, one past the edges where an edge is written before it is known to be listed, an offset for each detector and one past them, and both ends of each edge
 unfoldable pub lengthsFor : ℕ → ℕ → Lengths
-unfolding words
 lengthsFor D E = record {
   «adj_offsets» = D + 1;
   «adj_edge» = 2 * E;
@@ -44,8 +40,8 @@ lengthsFor D E = record {
   seen = D;
   active = D;
   front = D;
-  touched = E;
-  cnt = E;
+  touched = E + 1;
+  cnt = E + 1;
   fresh = E;
   «order_edge» = D;
   «order_parent» = D;
@@ -58,8 +54,6 @@ lengthsFor D E = record {
   «boundary_edge» = D;
   hot = D;
   free = D;
-  live = D;
-  bits = words E;
 }
 
 -- each slice has at least what is needed of it
@@ -85,9 +79,7 @@ covers need have =
     && (leb (need .odd) (have .odd)
     && (leb (need .«boundary_edge») (have .«boundary_edge»)
     && (leb (need .hot) (have .hot)
-    && (leb (need .free) (have .free)
-    && (leb (need .live) (have .live)
-    && leb (need .bits) (have .bits))))))))))))))))))))))
+    && leb (need .free) (have .free))))))))))))))))))))
 
 unfoldable pub scratchLong : ℕ → ℕ → Lengths → Bool
 unfolding lengthsFor covers

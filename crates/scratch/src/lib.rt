@@ -30,8 +30,6 @@ pub struct Lengths {
     pub boundary_edge: usize,
     pub hot: usize,
     pub free: usize,
-    pub live: usize,
-    pub bits: usize,
 }
 
 // The least lengths, for counts within the limits.
@@ -48,8 +46,8 @@ pub fn least_lengths(detectors: usize, edges: usize) -> Lengths
         seen: detectors,
         active: detectors,
         front: detectors,
-        touched: edges,
-        cnt: edges,
+        touched: edges + 1,
+        cnt: edges + 1,
         fresh: edges,
         order_edge: detectors,
         order_parent: detectors,
@@ -62,8 +60,6 @@ pub fn least_lengths(detectors: usize, edges: usize) -> Lengths
         boundary_edge: detectors,
         hot: detectors,
         free: detectors,
-        live: detectors,
-        bits: bits::words(edges),
     }
 }
 
@@ -93,8 +89,6 @@ pub fn no_lengths() -> Lengths
         boundary_edge: 0,
         hot: 0,
         free: 0,
-        live: 0,
-        bits: 0,
     }
 }
 
@@ -122,9 +116,7 @@ pub fn fits_past(n: usize, len: usize, rest: bool) -> bool
 pub fn is_long(detectors: usize, edges: usize, have: Lengths) -> bool
     ensures { λ r. ⌜ r ≡ scratchLong detectors edges have ⌝ }
 {
-    let mut long = fits(bits::words(edges), have.bits, true);
-    long = fits(detectors, have.live, long);
-    long = fits(detectors, have.free, long);
+    let mut long = fits(detectors, have.free, true);
     long = fits(detectors, have.hot, long);
     long = fits(detectors, have.boundary_edge, long);
     long = fits(detectors, have.odd, long);
@@ -136,8 +128,8 @@ pub fn is_long(detectors: usize, edges: usize, have: Lengths) -> bool
     long = fits(detectors, have.order_parent, long);
     long = fits(detectors, have.order_edge, long);
     long = fits(edges, have.fresh, long);
-    long = fits(edges, have.cnt, long);
-    long = fits(edges, have.touched, long);
+    long = fits_past(edges, have.cnt, long);
+    long = fits_past(edges, have.touched, long);
     long = fits(detectors, have.front, long);
     long = fits(detectors, have.active, long);
     long = fits(detectors, have.seen, long);

@@ -382,8 +382,6 @@ pub extern "C" fn pavrenni_decode_shot(
     boundary_edge: &mut [u32],
     hot: &mut [bool],
     free: &mut [bool],
-    live: &mut [bool],
-    bits: &mut [u64],
     detectors: usize,
     observables: usize,
     edges: usize,
@@ -394,7 +392,7 @@ pub extern "C" fn pavrenni_decode_shot(
     shot: &[u64],
     width: usize,
 ) -> ShotWords
-    ensures { λ r. ⌜ InWords wordsOfShot (λ a. Decodes (handed (lentOf detectors observables edges (now («edge_u» .entry)) (now («edge_v» .entry)) (now («edge_weight» .entry)) (now («edge_obs» .entry))) (now (shot .entry)) width (now (row .entry)) (now (list .entry)) (lengthsOf (length (now («adj_offsets» .entry))) (length (now («adj_edge» .entry))) (length (now («adj_far» .entry))) (length (now (defects .entry))) (length (now (seen .entry))) (length (now (active .entry))) (length (now (front .entry))) (length (now (touched .entry))) (length (now (cnt .entry))) (length (now (fresh .entry))) (length (now («order_edge» .entry))) (length (now («order_parent» .entry))) (length (now (lit .entry))) (length (now (growth .entry))) (length (now (sat .entry))) (length (now (known .entry))) (length (now (parent .entry))) (length (now (odd .entry))) (length (now («boundary_edge» .entry))) (length (now (hot .entry))) (length (now (free .entry))) (length (now (live .entry))) (length (now (bits .entry))))) a (now (list .exit)) (now (row .exit))) r ⌝ }
+    ensures { λ r. ⌜ InWords wordsOfShot (λ a. Decodes (handed (lentOf detectors observables edges (now («edge_u» .entry)) (now («edge_v» .entry)) (now («edge_weight» .entry)) (now («edge_obs» .entry))) (now (shot .entry)) width (now (row .entry)) (now (list .entry)) (lengthsOf (length (now («adj_offsets» .entry))) (length (now («adj_edge» .entry))) (length (now («adj_far» .entry))) (length (now (defects .entry))) (length (now (seen .entry))) (length (now (active .entry))) (length (now (front .entry))) (length (now (touched .entry))) (length (now (cnt .entry))) (length (now (fresh .entry))) (length (now («order_edge» .entry))) (length (now («order_parent» .entry))) (length (now (lit .entry))) (length (now (growth .entry))) (length (now (sat .entry))) (length (now (known .entry))) (length (now (parent .entry))) (length (now (odd .entry))) (length (now («boundary_edge» .entry))) (length (now (hot .entry))) (length (now (free .entry))))) a (now (list .exit)) (now (row .exit))) r ⌝ }
 {
     shot_words(decoder::decode_shot(
         detectors,
@@ -423,8 +421,6 @@ pub extern "C" fn pavrenni_decode_shot(
         boundary_edge,
         hot,
         free,
-        live,
-        bits,
         edge_u,
         edge_v,
         edge_weight,
@@ -558,8 +554,6 @@ pub extern "C" fn pavrenni_decode_batch(
     boundary_edge: &mut [u32],
     hot: &mut [bool],
     free: &mut [bool],
-    live: &mut [bool],
-    bits: &mut [u64],
     detectors: usize,
     observables: usize,
     edges: usize,
@@ -571,7 +565,7 @@ pub extern "C" fn pavrenni_decode_batch(
     shots: usize,
     width: usize,
 ) -> BatchWords
-    ensures { λ r. ⌜ InWords wordsOfBatch (λ a. batched.Decodes (batched.handed (lentOf detectors observables edges (now («edge_u» .entry)) (now («edge_v» .entry)) (now («edge_weight» .entry)) (now («edge_obs» .entry))) (now (rows .entry)) shots width (now (out .entry)) (length (now (list .entry))) (lengthsOf (length (now («adj_offsets» .entry))) (length (now («adj_edge» .entry))) (length (now («adj_far» .entry))) (length (now (defects .entry))) (length (now (seen .entry))) (length (now (active .entry))) (length (now (front .entry))) (length (now (touched .entry))) (length (now (cnt .entry))) (length (now (fresh .entry))) (length (now («order_edge» .entry))) (length (now («order_parent» .entry))) (length (now (lit .entry))) (length (now (growth .entry))) (length (now (sat .entry))) (length (now (known .entry))) (length (now (parent .entry))) (length (now (odd .entry))) (length (now («boundary_edge» .entry))) (length (now (hot .entry))) (length (now (free .entry))) (length (now (live .entry))) (length (now (bits .entry))))) a (now (out .exit))) r ⌝ }
+    ensures { λ r. ⌜ InWords wordsOfBatch (λ a. batched.Decodes (batched.handed (lentOf detectors observables edges (now («edge_u» .entry)) (now («edge_v» .entry)) (now («edge_weight» .entry)) (now («edge_obs» .entry))) (now (rows .entry)) shots width (now (out .entry)) (length (now (list .entry))) (lengthsOf (length (now («adj_offsets» .entry))) (length (now («adj_edge» .entry))) (length (now («adj_far» .entry))) (length (now (defects .entry))) (length (now (seen .entry))) (length (now (active .entry))) (length (now (front .entry))) (length (now (touched .entry))) (length (now (cnt .entry))) (length (now (fresh .entry))) (length (now («order_edge» .entry))) (length (now («order_parent» .entry))) (length (now (lit .entry))) (length (now (growth .entry))) (length (now (sat .entry))) (length (now (known .entry))) (length (now (parent .entry))) (length (now (odd .entry))) (length (now («boundary_edge» .entry))) (length (now (hot .entry))) (length (now (free .entry))))) a (now (out .exit))) r ⌝ }
 {
     batch_words(batch::decode_batch(
         detectors,
@@ -600,8 +594,6 @@ pub extern "C" fn pavrenni_decode_batch(
         boundary_edge,
         hot,
         free,
-        live,
-        bits,
         edge_u,
         edge_v,
         edge_weight,
@@ -666,8 +658,6 @@ pub extern "C" fn pavrenni_rate(
     boundary_edge: &mut [u32],
     hot: &mut [bool],
     free: &mut [bool],
-    live: &mut [bool],
-    bits: &mut [u64],
     detectors: usize,
     observables: usize,
     edges: usize,
@@ -682,7 +672,7 @@ pub extern "C" fn pavrenni_rate(
     true_shots: usize,
     true_width: usize,
 ) -> RateWords
-    ensures { λ r. ⌜ InWords wordsOfRate (λ a. Rates (compared (batched.handed (lentOf detectors observables edges (now («edge_u» .entry)) (now («edge_v» .entry)) (now («edge_weight» .entry)) (now («edge_obs» .entry))) (now (rows .entry)) shots width (now (out .entry)) (length (now (list .entry))) (lengthsOf (length (now («adj_offsets» .entry))) (length (now («adj_edge» .entry))) (length (now («adj_far» .entry))) (length (now (defects .entry))) (length (now (seen .entry))) (length (now (active .entry))) (length (now (front .entry))) (length (now (touched .entry))) (length (now (cnt .entry))) (length (now (fresh .entry))) (length (now («order_edge» .entry))) (length (now («order_parent» .entry))) (length (now (lit .entry))) (length (now (growth .entry))) (length (now (sat .entry))) (length (now (known .entry))) (length (now (parent .entry))) (length (now (odd .entry))) (length (now («boundary_edge» .entry))) (length (now (hot .entry))) (length (now (free .entry))) (length (now (live .entry))) (length (now (bits .entry))))) (now (truth .entry)) «true_shots» «true_width») a (now (out .exit))) r ⌝ }
+    ensures { λ r. ⌜ InWords wordsOfRate (λ a. Rates (compared (batched.handed (lentOf detectors observables edges (now («edge_u» .entry)) (now («edge_v» .entry)) (now («edge_weight» .entry)) (now («edge_obs» .entry))) (now (rows .entry)) shots width (now (out .entry)) (length (now (list .entry))) (lengthsOf (length (now («adj_offsets» .entry))) (length (now («adj_edge» .entry))) (length (now («adj_far» .entry))) (length (now (defects .entry))) (length (now (seen .entry))) (length (now (active .entry))) (length (now (front .entry))) (length (now (touched .entry))) (length (now (cnt .entry))) (length (now (fresh .entry))) (length (now («order_edge» .entry))) (length (now («order_parent» .entry))) (length (now (lit .entry))) (length (now (growth .entry))) (length (now (sat .entry))) (length (now (known .entry))) (length (now (parent .entry))) (length (now (odd .entry))) (length (now («boundary_edge» .entry))) (length (now (hot .entry))) (length (now (free .entry))))) (now (truth .entry)) «true_shots» «true_width») a (now (out .exit))) r ⌝ }
 {
     let graph = tabled::check_graph(
         adj_offsets,
@@ -717,8 +707,6 @@ pub extern "C" fn pavrenni_rate(
         boundary_edge,
         hot,
         free,
-        live,
-        bits,
         detectors,
         observables,
         edges,

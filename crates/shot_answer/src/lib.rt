@@ -39,18 +39,16 @@ pub fn stuck_shot(
     boundary_edge: &mut [u32],
     hot: &mut [bool],
     free: &mut [bool],
-    live: &mut [bool],
-    bits: &[u64],
     detector: u32,
     rounds: u32,
 ) -> Shot
     requires { ⌜ Tables detectors observables (now «edge_u») (now «edge_v») (now «edge_weight») (now «edge_obs») (now «adj_offsets») (now «adj_edge») (now «adj_far») ⌝ }
-    requires { ⌜ GrewTo (weighted detectors (now «edge_u») (now «edge_v») (now «edge_weight»)) (now lit) detector rounds (now growth) (now sat) (now parent) (now odd) (now «boundary_edge») (now known) (now seen) n (now hot) (now free) (now live) (now bits) ⌝ }
+    requires { ⌜ GrewTo (weighted detectors (now «edge_u») (now «edge_v») (now «edge_weight»)) (now lit) detector rounds (now growth) (now sat) (now parent) (now odd) (now «boundary_edge») (now known) (now seen) n (now hot) (now free) ⌝ }
     requires { ⌜ (detector ≡ boundary → ⊥) ⌝ }
     ensures answers { λ r. ⌜ r ≡ shotOf (decode (graphIn detectors observables (now («edge_u» .entry)) (now («edge_v» .entry)) (now («edge_weight» .entry)) (now («edge_obs» .entry))) (now (lit .entry))) ⌝ }
     ensures lists { λ _. ⌜ ((was : List ℕ) → was ≡ listLeft was (decode (graphIn detectors observables (now («edge_u» .entry)) (now («edge_v» .entry)) (now («edge_weight» .entry)) (now («edge_obs» .entry))) (now (lit .entry)))) ⌝ }
     ensures rows { λ _. ⌜ ((was : List ℕ) → was ≡ rowLeft (graphIn detectors observables (now («edge_u» .entry)) (now («edge_v» .entry)) (now («edge_weight» .entry)) (now («edge_obs» .entry))) was (decode (graphIn detectors observables (now («edge_u» .entry)) (now («edge_v» .entry)) (now («edge_weight» .entry)) (now («edge_obs» .entry))) (now (lit .entry)))) ⌝ }
-    ensures rests { λ _. ⌜ Clean detectors (length (now («edge_u» .entry))) (now (lit .exit)) (now (growth .exit)) (now (sat .exit)) (now (known .exit)) (now (parent .exit)) (now (odd .exit)) (now («boundary_edge» .exit)) (now (hot .exit)) (now (free .exit)) (now (live .exit)) (now (bits .entry)) ⌝ }
+    ensures rests { λ _. ⌜ Clean detectors (length (now («edge_u» .entry))) (now (lit .exit)) (now (growth .exit)) (now (sat .exit)) (now (known .exit)) (now (parent .exit)) (now (odd .exit)) (now («boundary_edge» .exit)) (now (hot .exit)) (now (free .exit)) ⌝ }
 {
     cleaning::clean(
         detectors,
@@ -70,8 +68,6 @@ pub fn stuck_shot(
         boundary_edge,
         hot,
         free,
-        live,
-        bits,
     );
     Shot::Stuck { rounds, detector }
 }

@@ -36,18 +36,16 @@ pub fn end_shot(
     boundary_edge: &mut [u32],
     hot: &mut [bool],
     free: &mut [bool],
-    live: &mut [bool],
-    bits: &[u64],
 ) -> usize
     requires { ⌜ Tabled d (now «edge_u») (now «edge_v») (now «adj_offsets») (now «adj_edge») (now «adj_far») (now sat) (now free) (now stack) (now «order_vertex») (now «order_edge») (now «order_parent») ⌝ }
     requires { ⌜ Down d (now parent) ⌝ }
     requires { ⌜ Grown d (now «edge_u») (now «edge_v») (now sat) (labels d (now parent)) (now «boundary_edge») ⌝ }
     requires { ⌜ Lit d (now defects) «defect_count» (now free) (now lit) (now list) ⌝ }
     requires { ⌜ Settles d (now «edge_u») (now «edge_v») (now sat) (labels d (now parent)) (now lit) «obs_words» (now «edge_obs») (now «out_row») (now seen) «seen_count» ⌝ }
-    requires { ⌜ Cleaning d (now «edge_u») (now «edge_v») (now «adj_offsets») (now «adj_edge») (now «adj_far») (now seen) «seen_count» (now bits) ⌝ }
-    requires { ⌜ Used d (now «edge_u») (now «edge_v») (take «seen_count» (now seen)) (now lit) (now growth) (now sat) (now known) (now parent) (now odd) (now «boundary_edge») (now hot) (now free) (now live) ⌝ }
+    requires { ⌜ Cleaning d (now «edge_u») (now «edge_v») (now «adj_offsets») (now «adj_edge») (now «adj_far») (now seen) «seen_count» ⌝ }
+    requires { ⌜ Used d (now «edge_u») (now «edge_v») (take «seen_count» (now seen)) (now lit) (now growth) (now sat) (now known) (now parent) (now odd) (now «boundary_edge») (now hot) (now free) ⌝ }
     ensures { λ r. ⌜ Finished d (now («edge_u» .entry)) (now («edge_v» .entry)) (now (sat .entry)) (labels d (now (parent .entry))) (now (lit .entry)) «obs_words» (now («edge_obs» .entry)) (now («out_row» .entry)) (now (list .entry)) r (now (free .exit)) (now (lit .exit)) (now («out_row» .exit)) (now (list .exit)) ⌝ }
-    ensures { λ _. ⌜ Clean d (length (now («edge_u» .entry))) (now (lit .exit)) (now (growth .exit)) (now (sat .exit)) (now (known .exit)) (now (parent .exit)) (now (odd .exit)) (now («boundary_edge» .exit)) (now (hot .exit)) (now (free .exit)) (now (live .exit)) (now (bits .entry)) ⌝ }
+    ensures { λ _. ⌜ Clean d (length (now («edge_u» .entry))) (now (lit .exit)) (now (growth .exit)) (now (sat .exit)) (now (known .exit)) (now (parent .exit)) (now (odd .exit)) (now («boundary_edge» .exit)) (now (hot .exit)) (now (free .exit)) ⌝ }
 {
     let r = finish::finish(
         d,
@@ -92,8 +90,6 @@ pub fn end_shot(
         boundary_edge,
         hot,
         free,
-        live,
-        bits,
     );
     r
 }

@@ -53,8 +53,8 @@ fn decode(
     let mut seen = [0u32; 256];
     let mut active = [0u32; 256];
     let mut front = [0u32; 256];
-    let mut touched = [0u32; 1024];
-    let mut cnt = [0u8; 1024];
+    let mut touched = [0u32; 1025];
+    let mut cnt = [0u8; 1025];
     let mut fresh = [0u32; 1024];
     let mut order_edge = [0u32; 256];
     let mut order_parent = [0u32; 256];
@@ -67,8 +67,6 @@ fn decode(
     let mut boundary_edge = [0u32; 256];
     let mut hot = [false; 256];
     let mut free = [false; 256];
-    let mut live = [false; 256];
-    let mut bits = [0u64; 16];
     decoder::decode_shot(
         detectors,
         observables,
@@ -96,8 +94,6 @@ fn decode(
         &mut boundary_edge,
         &mut hot,
         &mut free,
-        &mut live,
-        &mut bits,
         edge_u,
         edge_v,
         edge_weight,

@@ -1,6 +1,6 @@
 // The rounds of a shot, from its lit detectors to its answer: document 01, "Growth and clusters".
 use shot_answer::Shot;
-ghost use Prim.Native.Nat.{_≤_};
+ghost use Prim.Native.Nat.{_<_, _≤_};
 ghost use mathlib.Core.Path.{_≡_};
 ghost use lib.ListN.{length};
 ghost use Rattle.steps.specs.Growth.{start};
@@ -45,17 +45,15 @@ pub fn grow_and_answer(
     boundary_edge: &mut [u32],
     hot: &mut [bool],
     free: &mut [bool],
-    live: &mut [bool],
-    bits: &mut [u64],
 ) -> Shot
     requires { ⌜ Tables detectors observables (now «edge_u») (now «edge_v») (now «edge_weight») (now «edge_obs») (now «adj_offsets») (now «adj_edge») (now «adj_far») ⌝ }
     requires { ⌜ Left detectors observables (now lit) (now row) (now list) (now defects) l (now active) (now front) (now «order_edge») (now «order_parent») ⌝ }
-    requires { ⌜ (length (now «edge_u») ≤ length (now touched)) × (length (now «edge_u») ≤ length (now cnt)) × (length (now «edge_u») ≤ length (now fresh)) ⌝ }
-    requires { ⌜ Rep (weighted detectors (now «edge_u») (now «edge_v») (now «edge_weight»)) (now lit) (start (weighted detectors (now «edge_u») (now «edge_v») (now «edge_weight»)) (now lit)) (now growth) (now sat) (now parent) (now active) l (now odd) (now «boundary_edge») (now known) (now seen) l (now hot) (now free) (now live) (now bits) ⌝ }
+    requires { ⌜ (length (now «edge_u») < length (now touched)) × (length (now «edge_u») < length (now cnt)) × (length (now «edge_u») ≤ length (now fresh)) ⌝ }
+    requires { ⌜ Rep (weighted detectors (now «edge_u») (now «edge_v») (now «edge_weight»)) (now lit) (start (weighted detectors (now «edge_u») (now «edge_v») (now «edge_weight»)) (now lit)) (now growth) (now sat) (now parent) (now active) l (now odd) (now «boundary_edge») (now known) (now seen) l (now hot) (now free) ⌝ }
     ensures answers { λ r. ⌜ r ≡ shotOf (decode (graphIn detectors observables (now («edge_u» .entry)) (now («edge_v» .entry)) (now («edge_weight» .entry)) (now («edge_obs» .entry))) (now (lit .entry))) ⌝ }
     ensures lists { λ _. ⌜ now (list .exit) ≡ listLeft (now (list .entry)) (decode (graphIn detectors observables (now («edge_u» .entry)) (now («edge_v» .entry)) (now («edge_weight» .entry)) (now («edge_obs» .entry))) (now (lit .entry))) ⌝ }
     ensures rows { λ _. ⌜ now (row .exit) ≡ rowLeft (graphIn detectors observables (now («edge_u» .entry)) (now («edge_v» .entry)) (now («edge_weight» .entry)) (now («edge_obs» .entry))) (now (row .entry)) (decode (graphIn detectors observables (now («edge_u» .entry)) (now («edge_v» .entry)) (now («edge_weight» .entry)) (now («edge_obs» .entry))) (now (lit .entry))) ⌝ }
-    ensures rests { λ _. ⌜ Clean detectors (length (now («edge_u» .entry))) (now (lit .exit)) (now (growth .exit)) (now (sat .exit)) (now (known .exit)) (now (parent .exit)) (now (odd .exit)) (now («boundary_edge» .exit)) (now (hot .exit)) (now (free .exit)) (now (live .exit)) (now (bits .exit)) ⌝ }
+    ensures rests { λ _. ⌜ Clean detectors (length (now («edge_u» .entry))) (now (lit .exit)) (now (growth .exit)) (now (sat .exit)) (now (known .exit)) (now (parent .exit)) (now (odd .exit)) (now («boundary_edge» .exit)) (now (hot .exit)) (now (free .exit)) ⌝ }
 {
     let mut n = l;
     let mut a = l;
@@ -82,8 +80,6 @@ pub fn grow_and_answer(
             boundary_edge,
             hot,
             free,
-            live,
-            bits,
             front,
             touched,
             cnt,
@@ -114,8 +110,6 @@ pub fn grow_and_answer(
                 boundary_edge,
                 hot,
                 free,
-                live,
-                bits,
                 detector,
                 rounds,
             );
@@ -151,8 +145,6 @@ pub fn grow_and_answer(
         boundary_edge,
         hot,
         free,
-        live,
-        bits,
     );
     Shot::Decoded { rounds, length }
 }

@@ -39,17 +39,15 @@ pub fn decode_clean(
     boundary_edge: &mut [u32],
     hot: &mut [bool],
     free: &mut [bool],
-    live: &mut [bool],
-    bits: &mut [u64],
 ) -> Shot
     requires { ⌜ Tables detectors observables (now «edge_u») (now «edge_v») (now «edge_weight») (now «edge_obs») (now «adj_offsets») (now «adj_edge») (now «adj_far») ⌝ }
     requires { ⌜ Given detectors observables (now shot) (now row) (now list) ⌝ }
     requires { ⌜ Places detectors (length (now «edge_u»)) (now defects) (now seen) (now active) (now front) (now touched) (now cnt) (now fresh) (now «order_edge») (now «order_parent») ⌝ }
-    requires { ⌜ Clean detectors (length (now «edge_u»)) (now lit) (now growth) (now sat) (now known) (now parent) (now odd) (now «boundary_edge») (now hot) (now free) (now live) (now bits) ⌝ }
+    requires { ⌜ Clean detectors (length (now «edge_u»)) (now lit) (now growth) (now sat) (now known) (now parent) (now odd) (now «boundary_edge») (now hot) (now free) ⌝ }
     ensures answers { λ r. ⌜ r ≡ shotOf (decodeIn detectors observables (now («edge_u» .entry)) (now («edge_v» .entry)) (now («edge_weight» .entry)) (now («edge_obs» .entry)) (now (shot .entry))) ⌝ }
     ensures lists { λ _. ⌜ now (list .exit) ≡ listLeft (now (list .entry)) (decodeIn detectors observables (now («edge_u» .entry)) (now («edge_v» .entry)) (now («edge_weight» .entry)) (now («edge_obs» .entry)) (now (shot .entry))) ⌝ }
     ensures rows { λ _. ⌜ now (row .exit) ≡ rowLeft (graphIn detectors observables (now («edge_u» .entry)) (now («edge_v» .entry)) (now («edge_weight» .entry)) (now («edge_obs» .entry))) (now (row .entry)) (decodeIn detectors observables (now («edge_u» .entry)) (now («edge_v» .entry)) (now («edge_weight» .entry)) (now («edge_obs» .entry)) (now (shot .entry))) ⌝ }
-    ensures rests { λ _. ⌜ Clean detectors (length (now («edge_u» .entry))) (now (lit .exit)) (now (growth .exit)) (now (sat .exit)) (now (known .exit)) (now (parent .exit)) (now (odd .exit)) (now («boundary_edge» .exit)) (now (hot .exit)) (now (free .exit)) (now (live .exit)) (now (bits .exit)) ⌝ }
+    ensures rests { λ _. ⌜ Clean detectors (length (now («edge_u» .entry))) (now (lit .exit)) (now (growth .exit)) (now (sat .exit)) (now (known .exit)) (now (parent .exit)) (now (odd .exit)) (now («boundary_edge» .exit)) (now (hot .exit)) (now (free .exit)) ⌝ }
 {
     let l = bits::list_set_bits(shot, detectors, defects);
     if l == 0 {
@@ -90,7 +88,5 @@ pub fn decode_clean(
         boundary_edge,
         hot,
         free,
-        live,
-        bits,
     )
 }

@@ -11,7 +11,7 @@ use Rattle.growth_state.specs.Rep.{zero64}
 use Rattle.cleaning.specs.Clean.{Sizes, Clean}
 use Rattle.starts.specs.Rest.{Fresh, Rooms, GrowthReset, ClustersReset}
 
-pub fresh : {d E : ℕ} {lit : List Bool} {growth : List Float} {sat known : List Bool} {parent : List ℕ} {odd : List Bool} {exit : List ℕ} {hot free live : List Bool} {bits : List ℕ} → Sizes d E lit growth sat known parent odd exit hot free live bits
+pub fresh : {d E : ℕ} {lit : List Bool} {growth : List Float} {sat known : List Bool} {parent : List ℕ} {odd : List Bool} {exit : List ℕ} {hot free : List Bool} → Sizes d E lit growth sat known parent odd exit hot free
     → {lit′ : List Bool} {growth′ : List Float} {sat′ known′ : List Bool} → GrowthReset lit growth sat known lit′ growth′ sat′ known′ → Fresh d E lit′ growth′ sat′ known′
 fresh s r = record {
   lits = r .lits ∙ ap (λ k. replicate k false) (s .lits);
@@ -20,13 +20,13 @@ fresh s r = record {
   knowns = r .knowns ∙ ap (λ k. replicate k false) (s .knowns);
 }
 
-pub rooms : {d E : ℕ} {lit : List Bool} {growth : List Float} {sat known : List Bool} {parent : List ℕ} {odd : List Bool} {exit : List ℕ} {hot free live : List Bool} {bits : List ℕ} → Sizes d E lit growth sat known parent odd exit hot free live bits
-    → Rooms d E parent odd exit hot free live bits
-rooms s = record { small = s .small; parents = s .parents; odds = s .odds; exits = s .exits; hots = s .hots; frees = s .frees; lives = s .lives; marks = s .marks }
+pub rooms : {d E : ℕ} {lit : List Bool} {growth : List Float} {sat known : List Bool} {parent : List ℕ} {odd : List Bool} {exit : List ℕ} {hot free : List Bool} → Sizes d E lit growth sat known parent odd exit hot free
+    → Rooms d parent odd exit hot free
+rooms s = record { small = s .small; parents = s .parents; odds = s .odds; exits = s .exits; hots = s .hots; frees = s .frees }
 
-pub clean : {d E : ℕ} {lit : List Bool} {growth : List Float} {sat known : List Bool} {parent : List ℕ} {odd : List Bool} {exit : List ℕ} {hot free live : List Bool} {bits : List ℕ} → Fresh d E lit growth sat known → Rooms d E parent odd exit hot free live bits
-    → {parent′ : List ℕ} {odd′ : List Bool} {exit′ : List ℕ} {hot′ free′ live′ : List Bool} {bits′ : List ℕ} → ClustersReset parent odd exit hot free live bits parent′ odd′ exit′ hot′ free′ live′ bits′
-    → Clean d E lit growth sat known parent′ odd′ exit′ hot′ free′ live′ bits′
+pub clean : {d E : ℕ} {lit : List Bool} {growth : List Float} {sat known : List Bool} {parent : List ℕ} {odd : List Bool} {exit : List ℕ} {hot free : List Bool} → Fresh d E lit growth sat known → Rooms d parent odd exit hot free
+    → {parent′ : List ℕ} {odd′ : List Bool} {exit′ : List ℕ} {hot′ free′ : List Bool} → ClustersReset parent odd exit hot free parent′ odd′ exit′ hot′ free′
+    → Clean d E lit growth sat known parent′ odd′ exit′ hot′ free′
 clean f s r = record {
   lits = f .lits;
   growths = f .growths;
@@ -37,6 +37,4 @@ clean f s r = record {
   exits = r .exits ∙ ap (λ k. replicate k boundary) (s .exits);
   hots = r .hots ∙ ap (λ k. replicate k false) (s .hots);
   frees = r .frees ∙ ap (λ k. replicate k false) (s .frees);
-  lives = r .lives ∙ ap (λ k. replicate k false) (s .lives);
-  no-bits = r .no-bits ∙ ap (λ k. replicate k 0) (s .marks);
 }

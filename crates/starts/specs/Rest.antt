@@ -6,7 +6,6 @@ use mathlib.Core.Bool.{Bool, false}
 use lib.ListN.{length, replicate}
 use lib.Ieee.{Float}
 use Rattle.lists.specs.Lists.{below}
-use Rattle.bits.specs.Rows.{words}
 use Rattle.steps.specs.Graph.{boundary}
 use Rattle.growth_state.specs.Rep.{zero64}
 
@@ -18,14 +17,12 @@ pub record GrowthReset (lit : List Bool) (growth : List Float) (sat known lit′
   pub knowns : known′ ≡ replicate (length known) false
 
 -- tables of clusters, put to rest
-pub record ClustersReset (parent : List ℕ) (odd : List Bool) (exit : List ℕ) (hot free live : List Bool) (bits parent′ : List ℕ) (odd′ : List Bool) (exit′ : List ℕ) (hot′ free′ live′ : List Bool) (bits′ : List ℕ) : Type 0 where
+pub record ClustersReset (parent : List ℕ) (odd : List Bool) (exit : List ℕ) (hot free : List Bool) (parent′ : List ℕ) (odd′ : List Bool) (exit′ : List ℕ) (hot′ free′ : List Bool) : Type 0 where
   pub parents : parent′ ≡ below (length parent)
   pub odds : odd′ ≡ replicate (length odd) false
   pub exits : exit′ ≡ replicate (length exit) boundary
   pub hots : hot′ ≡ replicate (length hot) false
   pub frees : free′ ≡ replicate (length free) false
-  pub lives : live′ ≡ replicate (length live) false
-  pub no-bits : bits′ ≡ replicate (length bits) 0
 
 -- the tables of growth at rest, of d detectors and E edges
 pub record Fresh (d E : ℕ) (lit : List Bool) (growth : List Float) (sat known : List Bool) : Type 0 where
@@ -34,13 +31,11 @@ pub record Fresh (d E : ℕ) (lit : List Bool) (growth : List Float) (sat known 
   pub sats : sat ≡ replicate E false
   pub knowns : known ≡ replicate d false
 
--- a place for each detector in the tables of clusters, and a bit for each edge
-pub record Rooms (d E : ℕ) (parent : List ℕ) (odd : List Bool) (exit : List ℕ) (hot free live : List Bool) (bits : List ℕ) : Type 0 where
+-- a place for each detector in the tables of clusters
+pub record Rooms (d : ℕ) (parent : List ℕ) (odd : List Bool) (exit : List ℕ) (hot free : List Bool) : Type 0 where
   pub small : d < boundary
   pub parents : length parent ≡ d
   pub odds : length odd ≡ d
   pub exits : length exit ≡ d
   pub hots : length hot ≡ d
   pub frees : length free ≡ d
-  pub lives : length live ≡ d
-  pub marks : length bits ≡ words E

@@ -28,19 +28,15 @@ fn reset_clusters(
     boundary_edge: &mut [u32],
     hot: &mut [bool],
     free: &mut [bool],
-    live: &mut [bool],
-    bits: &mut [u64],
 )
     requires { ⌜ length (now parent) < 4294967296 ⌝ }
-    ensures { λ _. ⌜ ClustersReset (now (parent .entry)) (now (odd .entry)) (now («boundary_edge» .entry)) (now (hot .entry)) (now (free .entry)) (now (live .entry)) (now (bits .entry)) (now (parent .exit)) (now (odd .exit)) (now («boundary_edge» .exit)) (now (hot .exit)) (now (free .exit)) (now (live .exit)) (now (bits .exit)) ⌝ }
+    ensures { λ _. ⌜ ClustersReset (now (parent .entry)) (now (odd .entry)) (now («boundary_edge» .entry)) (now (hot .entry)) (now (free .entry)) (now (parent .exit)) (now (odd .exit)) (now («boundary_edge» .exit)) (now (hot .exit)) (now (free .exit)) ⌝ }
 {
     fills::fill_numbers(parent);
     fills::fill_bool(odd, false);
     fills::fill_u32(boundary_edge, BOUNDARY);
     fills::fill_bool(hot, false);
     fills::fill_bool(free, false);
-    fills::fill_bool(live, false);
-    fills::fill_u64(bits, 0);
 }
 
 // The tables of clusters put to rest, whatever they held, and the shot decoded: a table more in one function is past what the checker takes, so there is one for the tables of growth and one for these. Long for its parameters, one a line.
@@ -75,19 +71,17 @@ fn decode_fresh(
     boundary_edge: &mut [u32],
     hot: &mut [bool],
     free: &mut [bool],
-    live: &mut [bool],
-    bits: &mut [u64],
 ) -> Shot
     requires { ⌜ Tables detectors observables (now «edge_u») (now «edge_v») (now «edge_weight») (now «edge_obs») (now «adj_offsets») (now «adj_edge») (now «adj_far») ⌝ }
     requires { ⌜ Given detectors observables (now shot) (now row) (now list) ⌝ }
     requires { ⌜ Places detectors (length (now «edge_u»)) (now defects) (now seen) (now active) (now front) (now touched) (now cnt) (now fresh) (now «order_edge») (now «order_parent») ⌝ }
     requires { ⌜ Fresh detectors (length (now «edge_u»)) (now lit) (now growth) (now sat) (now known) ⌝ }
-    requires { ⌜ Rooms detectors (length (now «edge_u»)) (now parent) (now odd) (now «boundary_edge») (now hot) (now free) (now live) (now bits) ⌝ }
+    requires { ⌜ Rooms detectors (now parent) (now odd) (now «boundary_edge») (now hot) (now free) ⌝ }
     ensures answers { λ r. ⌜ r ≡ shotOf (decodeIn detectors observables (now («edge_u» .entry)) (now («edge_v» .entry)) (now («edge_weight» .entry)) (now («edge_obs» .entry)) (now (shot .entry))) ⌝ }
     ensures lists { λ _. ⌜ now (list .exit) ≡ listLeft (now (list .entry)) (decodeIn detectors observables (now («edge_u» .entry)) (now («edge_v» .entry)) (now («edge_weight» .entry)) (now («edge_obs» .entry)) (now (shot .entry))) ⌝ }
     ensures rows { λ _. ⌜ now (row .exit) ≡ rowLeft (graphIn detectors observables (now («edge_u» .entry)) (now («edge_v» .entry)) (now («edge_weight» .entry)) (now («edge_obs» .entry))) (now (row .entry)) (decodeIn detectors observables (now («edge_u» .entry)) (now («edge_v» .entry)) (now («edge_weight» .entry)) (now («edge_obs» .entry)) (now (shot .entry))) ⌝ }
 {
-    reset_clusters(parent, odd, boundary_edge, hot, free, live, bits);
+    reset_clusters(parent, odd, boundary_edge, hot, free);
     shots::decode_clean(
         detectors,
         observables,
@@ -119,8 +113,6 @@ fn decode_fresh(
         boundary_edge,
         hot,
         free,
-        live,
-        bits,
     )
 }
 
@@ -156,13 +148,11 @@ pub fn decode_reset(
     boundary_edge: &mut [u32],
     hot: &mut [bool],
     free: &mut [bool],
-    live: &mut [bool],
-    bits: &mut [u64],
 ) -> Shot
     requires { ⌜ Tables detectors observables (now «edge_u») (now «edge_v») (now «edge_weight») (now «edge_obs») (now «adj_offsets») (now «adj_edge») (now «adj_far») ⌝ }
     requires { ⌜ Given detectors observables (now shot) (now row) (now list) ⌝ }
     requires { ⌜ Places detectors (length (now «edge_u»)) (now defects) (now seen) (now active) (now front) (now touched) (now cnt) (now fresh) (now «order_edge») (now «order_parent») ⌝ }
-    requires { ⌜ Sizes detectors (length (now «edge_u»)) (now lit) (now growth) (now sat) (now known) (now parent) (now odd) (now «boundary_edge») (now hot) (now free) (now live) (now bits) ⌝ }
+    requires { ⌜ Sizes detectors (length (now «edge_u»)) (now lit) (now growth) (now sat) (now known) (now parent) (now odd) (now «boundary_edge») (now hot) (now free) ⌝ }
     ensures answers { λ r. ⌜ r ≡ shotOf (decodeIn detectors observables (now («edge_u» .entry)) (now («edge_v» .entry)) (now («edge_weight» .entry)) (now («edge_obs» .entry)) (now (shot .entry))) ⌝ }
     ensures lists { λ _. ⌜ now (list .exit) ≡ listLeft (now (list .entry)) (decodeIn detectors observables (now («edge_u» .entry)) (now («edge_v» .entry)) (now («edge_weight» .entry)) (now («edge_obs» .entry)) (now (shot .entry))) ⌝ }
     ensures rows { λ _. ⌜ now (row .exit) ≡ rowLeft (graphIn detectors observables (now («edge_u» .entry)) (now («edge_v» .entry)) (now («edge_weight» .entry)) (now («edge_obs» .entry))) (now (row .entry)) (decodeIn detectors observables (now («edge_u» .entry)) (now («edge_v» .entry)) (now («edge_weight» .entry)) (now («edge_obs» .entry)) (now (shot .entry))) ⌝ }
@@ -199,7 +189,5 @@ pub fn decode_reset(
         boundary_edge,
         hot,
         free,
-        live,
-        bits,
     )
 }

@@ -16,7 +16,7 @@ use Rattle.codes.specs.declared.Checked.{Checked}
 use Rattle.codes.specs.declared.Checked.the-variants.{Accepted, Refused}
 use Rattle.codes.specs.Limits.{checkCounts}
 use Rattle.steps.specs.Call.{graphOf, checkEdges}
-use Rattle.found.proofs.Accepted.{accepted-ends}
+use Rattle.found.proofs.Accepted.{accepted-ends, accepted-weights}
 use Rattle.adjacency.specs.Adjacent.{Sized, Adjacent}
 use Rattle.lent.specs.Lent.{checkLent}
 use Rattle.lent.proofs.Limits.{limited}
@@ -100,8 +100,9 @@ module _ (l : Lent) {off adj far : List ℕ} where
 -- with the edges at each detector, what a shot asks of an accepted call
 pub wide : {d o n : ℕ} {u v : List ℕ} {weight : List Float} {obs : List ℕ} {own : Bool} {rows : List ℕ} {shots width : ℕ} → Accepts (lentOf d o n u v weight obs) own rows shots width
     → (off adj far : List ℕ) → Room d n (length off) (length adj) (length far) → AdjacentParts d n u v off adj far → Wide d o n u v weight obs off adj far
-wide a off adj far room t = record {
+wide {d} {o} {n} {u} {v} {weight} {obs} a off adj far room t = record {
   ends = a .ends;
+  fits = accepted-weights (graphOf d o n u v weight obs) (a .graph);
   firsts = a .u-long;
   others = a .v-long;
   weights = a .weight-long;

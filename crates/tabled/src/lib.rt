@@ -36,14 +36,10 @@ pub fn clean_long(
     boundary_edge: usize,
     hot: usize,
     free: usize,
-    live: usize,
-    bits: usize,
 ) -> bool
-    ensures { λ r. ⌜ r ≡ cleanLong detectors edges lit growth sat known parent odd «boundary_edge» hot free live bits ⌝ }
+    ensures { λ r. ⌜ r ≡ cleanLong detectors edges lit growth sat known parent odd «boundary_edge» hot free ⌝ }
 {
-    let mut long = scratch::fits(bits::words(edges), bits, true);
-    long = scratch::fits(detectors, live, long);
-    long = scratch::fits(detectors, free, long);
+    let mut long = scratch::fits(detectors, free, true);
     long = scratch::fits(detectors, hot, long);
     long = scratch::fits(detectors, boundary_edge, long);
     long = scratch::fits(detectors, odd, long);
@@ -82,8 +78,8 @@ pub fn own_long(
     let mut long = scratch::fits(detectors, order_parent, rest);
     long = scratch::fits(detectors, order_edge, long);
     long = scratch::fits(edges, fresh, long);
-    long = scratch::fits(edges, cnt, long);
-    long = scratch::fits(edges, touched, long);
+    long = scratch::fits_past(edges, cnt, long);
+    long = scratch::fits_past(edges, touched, long);
     long = scratch::fits(detectors, front, long);
     long = scratch::fits(detectors, active, long);
     long = scratch::fits(detectors, seen, long);

@@ -135,17 +135,17 @@ macro_rules! fill_stale {
 /// The decoder's scratch slices, each one entry short.
 pub fn short_scratch() -> Vec<Change<Scratch>> {
     one_short!(Scratch: adj_offsets, adj_edge, adj_far, defects, seen, active, front, touched, cnt, fresh, order_edge, order_parent, lit, growth,
-        sat, known, parent, odd, boundary_edge, hot, free, live, bits)
+        sat, known, parent, odd, boundary_edge, hot, free)
 }
 
 pub fn lengthen_scratch(scratch: &mut Scratch) {
     lengthen!(scratch; adj_offsets, adj_edge, adj_far, defects, seen, active, front, touched, cnt, fresh, order_edge, order_parent, lit, growth,
-        sat, known, parent, odd, boundary_edge, hot, free, live, bits);
+        sat, known, parent, odd, boundary_edge, hot, free);
 }
 
 pub fn fill_scratch(scratch: &mut Scratch) {
     fill_stale!(scratch; adj_offsets, adj_edge, adj_far, defects, seen, active, front, touched, cnt, fresh, order_edge, order_parent, lit, growth,
-        sat, known, parent, odd, boundary_edge, hot, free, live, bits);
+        sat, known, parent, odd, boundary_edge, hot, free);
 }
 
 /// A lent graph's tables, each one entry short.

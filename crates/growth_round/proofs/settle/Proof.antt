@@ -1,62 +1,58 @@
-use mathlib.Core.Path.{_≡_, refl, sym, ap, ap₂, _∙_}
-use native.Mathlib.Omega.{arith}
-use Rattle.growth_round.proofs.Laws.{growing, room, ready, merging, settled}
+-- `growth_round::settle` meets its contract: the least step, growth by it, and the clusters of what saturates merged.
+use mathlib.Core.Path.{sym, _∙_}
+use Rattle.growth_round.proofs.Settling.{growing, room, ready, merging, settled}
 use borrow.Author.Needs.{needs}
 use Rattle.growth_round.proofs.settle.Statement.{statement}
 use Rattle.growth_round.proofs.settle.Tie as tie
-use Rattle.growth_round.proofs.settle.Reads as reads
-use Rattle.growth_round.proofs.settle.Lts as lts
-use Rattle.clusters.proofs.merge.Reads as merge-reads
-use Rattle.rounds.proofs.grow.Reads as grow-reads
-use Rattle.rounds.proofs.least.Reads as least-reads
 
--- src/lib.rt:75:9
 least-requires : tie.Need-least-requires
-least-requires c κs = (growing (c .before .before .before .before .before .before .before .before .before .before .before .before .before .before .before .before .args .active .now) (c .before .before .before .before .before .before .before .before .before .before .before .before .before .before .before .before .args .a) (c .before .before .before .before .before .before .before .before .before .before .before .before .before .before .before .before .pre) _ (c .before .before .before .before .before .before .before .before .before .before .before .before .before .before .before .before .pre .weights), c .before .before .before .before .before .before .before .before .before .before .before .before .before .before .before .before .pre .growths ∙ sym (c .before .before .before .before .before .before .before .before .before .before .before .before .before .before .before .before .pre .weights))
+least-requires c κs =
+    let args = c .before .before .before .before .before .before .before .before .before .before .before .before .before .before .before .before .args in
+    let pre = c .before .before .before .before .before .before .before .before .before .before .before .before .before .before .before .before .pre in
+    (growing (args .active .now) (args .a) pre _ (pre .weights), pre .growths ∙ sym (pre .weights))
 
--- src/lib.rt:78:9
 grow-requires : tie.Need-grow-requires
-grow-requires c κs = (growing (c .before .before .before .before .before .before .before .before .before .before .before .before .before .before .before .before .before .before .before .args .active .now) (c .before .before .before .before .before .before .before .before .before .before .before .before .before .before .before .before .before .before .before .args .a) (c .before .before .before .before .before .before .before .before .before .before .before .before .before .before .before .before .before .before .before .pre) _ (c .before .before .before .before .before .before .before .before .before .before .before .before .before .before .before .before .before .before .before .pre .weights), (c .before .before .before .before .before .before .before .before .before .before .before .before .before .before .before .before .before .before .before .pre .growths ∙ sym (c .before .before .before .before .before .before .before .before .before .before .before .before .before .before .before .before .before .before .before .pre .weights), room (c .before .before .before .before .before .before .before .before .before .before .before .before .before .before .before .before .before .before .before .args .active .now) (c .before .before .before .before .before .before .before .before .before .before .before .before .before .before .before .before .before .before .before .args .a) (c .before .before .before .before .before .before .before .before .before .before .before .before .before .before .before .before .before .before .before .pre) (c .before .before .least .ensures)))
+grow-requires c κs =
+    let args = c .before .before .before .before .before .before .before .before .before .before .before .before .before .before .before .before .before .before .before .args in
+    let pre = c .before .before .before .before .before .before .before .before .before .before .before .before .before .before .before .before .before .before .before .pre in
+    (growing (args .active .now) (args .a) pre _ (pre .weights), (pre .growths ∙ sym (pre .weights), room (args .active .now) (args .a) pre))
 
--- src/lib.rt:79:5
 merge-requires : tie.Need-merge-requires
-merge-requires c κs = (ready (c .before .before .before .before .before .before .before .before .before .before .before .before .before .before .before .before .before .before .before .before .before .before .before .before .before .before .before .before .before .before .before .args .active .now) (c .before .before .before .before .before .before .before .before .before .before .before .before .before .before .before .before .before .before .before .before .before .before .before .before .before .before .before .before .before .before .before .args .a) (c .before .before .before .before .before .before .before .before .before .before .before .before .before .before .before .before .before .before .before .before .before .before .before .before .before .before .before .before .before .before .before .pre) (c .before .before .before .before .before .before .before .before .before .before .before .before .before .before .least .ensures) (c .before .before .before .before .before .before .before .before .before .before .before .grow .ensures) (c .before .before .before .before .before .before .before .before .before .before .before .grow .kept .1 .1 .1 .1 .1 .1 .1 .0), merging (c .before .before .before .before .before .before .before .before .before .before .before .before .before .before .before .before .before .before .before .before .before .before .before .before .before .before .before .before .before .before .before .args .active .now) (c .before .before .before .before .before .before .before .before .before .before .before .before .before .before .before .before .before .before .before .before .before .before .before .before .before .before .before .before .before .before .before .args .a) (c .before .before .before .before .before .before .before .before .before .before .before .before .before .before .before .before .before .before .before .before .before .before .before .before .before .before .before .before .before .before .before .pre) (c .before .before .before .before .before .before .before .before .before .before .before .before .before .before .least .ensures) (c .before .before .before .before .before .before .before .before .before .before .before .grow .ensures) (c .before .before .before .before .before .before .before .before .before .before .before .grow .kept .1 .1 .1 .1 .1 .1 .1 .0))
+merge-requires c κs =
+    let args = c .before .before .before .before .before .before .before .before .before .before .before .before .before .before .before .before .before .before .before .before .before .before .before .before .before .before .before .before .before .before .before .args in
+    let pre = c .before .before .before .before .before .before .before .before .before .before .before .before .before .before .before .before .before .before .before .before .before .before .before .before .before .before .before .before .before .before .before .pre in
+    let grow = c .before .before .before .before .before .before .before .before .before .before .before .grow in
+    (ready (args .active .now) (args .a) pre, merging (args .active .now) (args .a) pre (c .before .before .before .before .before .before .before .before .before .before .before .before .before .before .least .ensures) (grow .ensures) (grow .kept .1 .1 .1 .1 .1 .1 .0))
 
--- src/lib.rt:50:1
 same-length : tie.Need-same-length
 same-length c = search needs
 
--- src/lib.rt:50:1
 same-length-2 : tie.Need-same-length-2
 same-length-2 c = search needs
 
--- src/lib.rt:50:1
 same-length-3 : tie.Need-same-length-3
 same-length-3 c = search needs
 
--- src/lib.rt:50:1
 same-length-4 : tie.Need-same-length-4
 same-length-4 c = search needs
 
--- src/lib.rt:50:1
 same-length-5 : tie.Need-same-length-5
 same-length-5 c = search needs
 
--- src/lib.rt:50:1
 same-length-6 : tie.Need-same-length-6
 same-length-6 c = search needs
 
--- src/lib.rt:50:1
 same-length-7 : tie.Need-same-length-7
 same-length-7 c = search needs
 
--- src/lib.rt:50:1
 same-length-8 : tie.Need-same-length-8
 same-length-8 c = search needs
 
--- src/lib.rt:50:1
 returns : tie.Need-returns
-returns c = settled (c .before .before .before .before .before .before .before .before .before .before .before .before .before .before .before .before .before .before .before .before .before .before .before .before .before .before .before .before .before .before .before .before .before .before .before .before .before .before .before .before .before .before .before .before .args .active .now) (c .before .before .before .before .before .before .before .before .before .before .before .before .before .before .before .before .before .before .before .before .before .before .before .before .before .before .before .before .before .before .before .before .before .before .before .before .before .before .before .before .before .before .before .before .args .a) (c .before .before .before .before .before .before .before .before .before .before .before .before .before .before .before .before .before .before .before .before .before .before .before .before .before .before .before .before .before .before .before .before .before .before .before .before .before .before .before .before .before .before .before .before .pre) (c .before .before .before .before .before .before .before .before .before .before .before .before .before .before .before .before .before .before .before .before .before .before .before .before .before .before .before .least .ensures) (c .before .before .before .before .before .before .before .before .before .before .before .before .before .before .before .before .before .before .before .before .before .before .before .before .grow .ensures) (c .before .before .before .before .before .before .before .before .before .before .before .before .before .before .before .before .before .before .before .before .before .before .before .before .grow .kept .1 .1 .1 .1 .1 .1 .1 .0) (c .before .before .before .before .before .before .before .before .before .before .before .before .merge .ensures)
+returns c =
+    let args = c .before .before .before .before .before .before .before .before .before .before .before .before .before .before .before .before .before .before .before .before .before .before .before .before .before .before .before .before .before .before .before .before .before .before .before .before .before .before .before .before .before .before .before .before .args in
+    let grow = c .before .before .before .before .before .before .before .before .before .before .before .before .before .before .before .before .before .before .before .before .before .before .before .before .grow in
+    settled (args .active .now) (args .a) (c .before .before .before .before .before .before .before .before .before .before .before .before .before .before .before .before .before .before .before .before .before .before .before .before .before .before .before .before .before .before .before .before .before .before .before .before .before .before .before .before .before .before .before .before .pre) (c .before .before .before .before .before .before .before .before .before .before .before .before .before .before .before .before .before .before .before .before .before .before .before .before .before .before .before .least .ensures) (grow .ensures) (grow .kept .1 .1 .1 .1 .1 .1 .0) (c .before .before .before .before .before .before .before .before .before .before .before .before .merge .ensures)
 
 pub settle-spec : {M : Type 1} → statement M
 settle-spec =

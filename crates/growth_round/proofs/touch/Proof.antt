@@ -1,27 +1,19 @@
--- `growth_round::touch` meets its contract: the front, its open edges, and the marked edges taken.
-use mathlib.Core.Path.{_∙_}
-use Rattle.growth_round.proofs.Laws.{fronting, counting, taking, touched-of}
+-- `growth_round::touch` meets its contract: the front, and the edges that it counts.
+use Rattle.growth_round.proofs.Touching.{fronting, counting, touched-of}
 use borrow.Author.Needs.{needs}
 use Rattle.growth_round.proofs.touch.Statement.{statement}
 use Rattle.growth_round.proofs.touch.Tie as tie
 
 front-requires : tie.Need-front-requires
 front-requires c κs =
-    let pre = c .before .before .before .before .before .before .before .before .before .before .before .before .before .before .before .before .before .before .before .before .before .before .before .pre in
+    let pre = c .before .before .before .before .before .before .before .before .before .before .before .before .before .before .before .before .before .before .before .before .pre in
     fronting (pre .0) (pre .1)
 
 count-requires : tie.Need-count-requires
 count-requires c κs =
-    let pre = c .before .before .before .before .before .before .before .before .before .before .before .before .before .before .before .before .before .before .before .before .before .before .before .before .before .before .before .before .before .before .before .before .before .before .pre in
-    let front = c .before .before .before .before .before .before .before .before .before .before .front in
-    counting (pre .0) (pre .1) (front .ensures) (front .kept .1 .1 .1 .1 .1 .1 .0) (front .kept .1 .1 .1 .1 .1 .0 ∙ pre .1 .rest .lives)
-
-take-requires : tie.Need-take-requires
-take-requires c κs =
-    let pre = c .before .before .before .before .before .before .before .before .before .before .before .before .before .before .before .before .before .before .before .before .before .before .before .before .before .before .before .before .before .before .before .before .before .before .before .before .before .before .before .before .before .before .before .pre in
-    let front = c .before .before .before .before .before .before .before .before .before .before .before .before .before .before .before .before .before .before .before .front in
-    let count = c .before .before .before .before .before .before .before .before .count in
-    taking (pre .0) (pre .1) (front .ensures) (front .kept .1 .1 .1 .1 .1 .1 .0) (front .kept .1 .1 .1 .1 .1 .0 ∙ pre .1 .rest .lives) (c .before .before .before .before .before .before .before .before .before .before .before .before .before .before .before .before .before .before .before .before .before .before .before .before .before .before .before .before .before .before .before .before .before .before .before .before .before .before .before .before .before .before .before .args .growth .now) (count .ensures) (count .kept .1 .1 .1 .1 .1 .1 .1 .1 .1 .1 .1 .0)
+    let pre = c .before .before .before .before .before .before .before .before .before .before .before .before .before .before .before .before .before .before .before .before .before .before .before .before .before .before .before .before .before .before .pre in
+    let front = c .before .before .before .before .before .before .before .before .before .front in
+    counting (pre .0) (pre .1) (front .ensures) (front .kept .1 .1 .1 .1 .1 .0)
 
 same-length : tie.Need-same-length
 same-length c = search needs
@@ -38,19 +30,11 @@ same-length-4 c = search needs
 same-length-5 : tie.Need-same-length-5
 same-length-5 c = search needs
 
-same-length-6 : tie.Need-same-length-6
-same-length-6 c = search needs
-
-same-length-7 : tie.Need-same-length-7
-same-length-7 c = search needs
-
 returns : tie.Need-returns
 returns c =
-    let pre = c .before .before .before .before .before .before .before .before .before .before .before .before .before .before .before .before .before .before .before .before .before .before .before .before .before .before .before .before .before .before .before .before .before .before .before .before .before .before .before .before .before .before .before .before .before .before .before .before .before .before .pre in
-    let front = c .before .before .before .before .before .before .before .before .before .before .before .before .before .before .before .before .before .before .before .before .before .before .before .before .before .before .front in
-    let count = c .before .before .before .before .before .before .before .before .before .before .before .before .before .before .before .count in
-    let take = c .before .before .before .before .before .before .take in
-    touched-of (pre .0) (pre .1) (front .ensures) (front .kept .1 .1 .1 .1 .1 .1 .0) (front .kept .1 .1 .1 .1 .1 .0 ∙ pre .1 .rest .lives) (c .before .before .before .before .before .before .before .before .before .before .before .before .before .before .before .before .before .before .before .before .before .before .before .before .before .before .before .before .before .before .before .before .before .before .before .before .before .before .before .before .before .before .before .before .before .before .before .before .before .before .args .growth .now) (count .ensures) (count .kept .1 .1 .1 .1 .1 .1 .1 .1 .1 .1 .1 .0) (take .ensures) (take .kept .1 .1 .1 .1 .1 .0) (take .kept .1 .1 .1 .1 .1 .1 .0)
+    let pre = c .before .before .before .before .before .before .before .before .before .before .before .before .before .before .before .before .before .before .before .before .before .before .before .before .before .before .before .before .before .before .before .before .before .before .before .before .before .pre in
+    let count = c .before .before .before .before .before .before .count in
+    touched-of (pre .0) (pre .1) (c .before .before .before .before .before .before .before .before .before .before .before .before .before .before .before .before .front .ensures) (c .before .before .before .before .before .before .before .before .before .before .before .before .before .before .before .before .before .before .before .before .before .before .before .before .before .before .before .before .before .before .before .before .before .before .before .before .before .args .growth .now) (count .ensures) (count .kept .1 .0) (count .kept .1 .1 .0)
 
 pub touch-spec : {M : Type 1} → statement M
 touch-spec =
@@ -58,12 +42,9 @@ touch-spec =
     (tie.spec
     front-requires
     count-requires
-    take-requires
     same-length
     same-length-2
     same-length-3
     same-length-4
     same-length-5
-    same-length-6
-    same-length-7
     returns)

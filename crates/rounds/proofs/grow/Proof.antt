@@ -1,23 +1,23 @@
-use Prim.Native.Nat.{ℕ, suc, _-_, _+_, _*_, _≤_, _<_}
-use mathlib.Core.Path.{_≡_, refl, sym, ap, ap₂, _∙_}
-use mathlib.Core.Bool.{Bool, true, false, cond, not, _&&_, _||_, or-false}
-use mathlib.Core.List.{List, _++_}
+-- `rounds::grow` meets its contract. The invariant: the growths with the edges from i on moved, and what is listed with what those add, are the answer.
+use Prim.Native.Nat.{_-_, _+_, _≤_}
+use mathlib.Core.Path.{_≡_, refl, sym, ap, _∙_}
+use mathlib.Core.List.{_++_}
 use native.Mathlib.Omega.{arith}
 use lib.ListN.{length, getD, set, take, length-set}
-use lib.Seq.{slice, slice-empty}
-use lib.Ieee.{Float, nan}
-use Rattle.rounds.specs.Passes.{growIn, ripeIn, Growing, Ripened}
-use Rattle.rounds.proofs.Laws.{grow-turn, grow-end, ripe-turn, ripe-skip, ripe-end}
+use lib.Seq.{slice}
+use lib.Ieee.{Float}
+use Rattle.rounds.specs.Passes.{growIn, ripeIn}
+use Rattle.rounds.proofs.Laws.{byte-low, grow-turn, grow-end, ripe-turn, ripe-end}
 use Rattle.rounds.proofs.grow.Statement.{statement}
 use Rattle.rounds.proofs.grow.Tie as tie
 
 abbrev Inv-loop : tie.InvT-loop
-Inv-loop touched cnt m step edge edge-weight growth₀ fresh₀ k₀ i₀ growth fresh k i = (i ≤ m) × (k ≤ i) × (length growth ≡ length growth₀) × (length fresh ≡ length fresh₀)
+Inv-loop touched cnt m step edge-weight growth₀ fresh₀ k₀ i₀ growth fresh k i = (i ≤ m) × (k ≤ i) × (length growth ≡ length growth₀) × (length fresh ≡ length fresh₀)
     × (growIn step growth (slice i m touched) (slice i m cnt) ≡ growIn step growth₀ (take m touched) (take m cnt))
-    × (take k fresh ++ ripeIn edge step edge-weight growth (slice i m touched) (slice i m cnt) ≡ ripeIn edge step edge-weight growth₀ (take m touched) (take m cnt))
+    × (take k fresh ++ ripeIn step edge-weight growth (slice i m touched) (slice i m cnt) ≡ ripeIn step edge-weight growth₀ (take m touched) (take m cnt))
 
 abbrev μ-loop : tie.MeasureT-loop
-μ-loop touched cnt m step edge edge-weight growth₀ fresh₀ k₀ i₀ growth fresh k i = m - i
+μ-loop touched cnt m step edge-weight growth₀ fresh₀ k₀ i₀ growth fresh k i = m - i
 
 loop-holds : tie.Need-loop-holds Inv-loop μ-loop
 loop-holds c = (omega arith, omega arith, refl, refl, refl, refl)
@@ -50,7 +50,7 @@ mul-growth : tie.Need-mul-growth Inv-loop μ-loop
 mul-growth c = omega (arith, c .before .before .before .before .before .before .before .before .before .before .before .pre .0 .inside (c .before .before .before .before .before .loop .i) (omega arith), c .before .before .before .before .before .before .before .before .before .before .before .pre .0 .touches, c .before .before .before .before .before .before .before .before .before .before .before .pre .0 .cnts, c .before .before .before .before .before .before .before .before .before .before .before .pre .1 .0, c .before .before .before .before .before .before .before .before .before .before .before .pre .1 .1, c .before .before .before .before .before .loop .inv .0, c .before .before .before .before .before .loop .inv .1, c .before .before .before .before .before .loop .inv .2, c .before .before .before .before .before .loop .inv .3)
 
 slice-write-growth : tie.Need-slice-write-growth Inv-loop μ-loop
-slice-write-growth c = omega (arith, c .before .before .before .before .before .before .before .before .before .before .before .pre .0 .inside (c .before .before .before .before .before .loop .i) (omega arith), c .before .before .before .before .before .before .before .before .before .before .before .pre .1 .0, c .before .before .before .before .before .loop .inv .2)
+slice-write-growth c = omega (arith, c .before .before .before .before .before .before .before .before .before .before .before .pre .0 .inside (c .before .before .before .before .before .loop .i) (omega arith), c .before .before .before .before .before .before .before .before .before .before .before .pre .0 .touches, c .before .before .before .before .before .before .before .before .before .before .before .pre .0 .cnts, c .before .before .before .before .before .before .before .before .before .before .before .pre .1 .0, c .before .before .before .before .before .before .before .before .before .before .before .pre .1 .1, c .before .before .before .before .before .loop .inv .0, c .before .before .before .before .before .loop .inv .1, c .before .before .before .before .before .loop .inv .2, c .before .before .before .before .before .loop .inv .3)
 
 mul-reaches : tie.Need-mul-reaches Inv-loop μ-loop
 mul-reaches c = omega (arith, c .before .before .before .before .before .before .before .before .before .before .before .pre .0 .inside (c .before .before .before .before .before .loop .i) (omega arith), c .before .before .before .before .before .before .before .before .before .before .before .pre .0 .touches, c .before .before .before .before .before .before .before .before .before .before .before .pre .0 .cnts, c .before .before .before .before .before .before .before .before .before .before .before .pre .1 .0, c .before .before .before .before .before .before .before .before .before .before .before .pre .1 .1, c .before .before .before .before .before .loop .inv .0, c .before .before .before .before .before .loop .inv .1, c .before .before .before .before .before .loop .inv .2, c .before .before .before .before .before .loop .inv .3)
@@ -67,33 +67,23 @@ mul-fresh c = omega (arith, c .before .before .before .before .before .before .b
 slice-write-fresh : tie.Need-slice-write-fresh Inv-loop μ-loop
 slice-write-fresh c = omega (arith, c .before .before .before .before .before .before .before .before .before .before .before .before .before .pre .0 .inside (c .before .before .before .before .before .before .before .loop .i) (omega arith), c .before .before .before .before .before .before .before .before .before .before .before .before .before .pre .0 .touches, c .before .before .before .before .before .before .before .before .before .before .before .before .before .pre .0 .cnts, c .before .before .before .before .before .before .before .before .before .before .before .before .before .pre .1 .0, c .before .before .before .before .before .before .before .before .before .before .before .before .before .pre .1 .1, c .before .before .before .before .before .before .before .loop .inv .0, c .before .before .before .before .before .before .before .loop .inv .1, c .before .before .before .before .before .before .before .loop .inv .2, c .before .before .before .before .before .before .before .loop .inv .3)
 
+cast-k : tie.Need-cast-k Inv-loop μ-loop
+cast-k c = omega (arith, c .before .before .before .before .before .before .before .before .before .before .before .before .before .pre .0 .inside (c .before .before .before .before .before .before .before .loop .i) (omega arith), c .before .before .before .before .before .before .before .before .before .before .before .before .before .pre .0 .touches, c .before .before .before .before .before .before .before .before .before .before .before .before .before .pre .0 .cnts, c .before .before .before .before .before .before .before .before .before .before .before .before .before .pre .1 .0, c .before .before .before .before .before .before .before .before .before .before .before .before .before .pre .1 .1, c .before .before .before .before .before .before .before .loop .inv .0, c .before .before .before .before .before .before .before .loop .inv .1, c .before .before .before .before .before .before .before .loop .inv .2, c .before .before .before .before .before .before .before .loop .inv .3)
+
 add-k : tie.Need-add-k Inv-loop μ-loop
-add-k c = omega (arith, c .before .before .before .before .before .before .before .before .before .before .before .before .before .before .pre .0 .inside (c .before .before .before .before .before .before .before .before .loop .i) (omega arith), c .before .before .before .before .before .before .before .before .before .before .before .before .before .before .pre .0 .touches, c .before .before .before .before .before .before .before .before .before .before .before .before .before .before .pre .0 .cnts, c .before .before .before .before .before .before .before .before .before .before .before .before .before .before .pre .1 .0, c .before .before .before .before .before .before .before .before .before .before .before .before .before .before .pre .1 .1, c .before .before .before .before .before .before .before .before .loop .inv .0, c .before .before .before .before .before .before .before .before .loop .inv .1, c .before .before .before .before .before .before .before .before .loop .inv .2, c .before .before .before .before .before .before .before .before .loop .inv .3)
+add-k c = simp byte-low (omega arith)
 
 loop-less : tie.Need-loop-less Inv-loop μ-loop
-loop-less c = omega arith
+loop-less c = omega (arith, c .before .before .before .before .before .before .before .before .before .before .before .before .before .pre .0 .inside (c .before .before .before .before .before .before .before .loop .i) (omega arith), c .before .before .before .before .before .before .before .before .before .before .before .before .before .pre .0 .touches, c .before .before .before .before .before .before .before .before .before .before .before .before .before .pre .0 .cnts, c .before .before .before .before .before .before .before .before .before .before .before .before .before .pre .1 .0, c .before .before .before .before .before .before .before .before .before .before .before .before .before .pre .1 .1, c .before .before .before .before .before .before .before .loop .inv .0, c .before .before .before .before .before .before .before .loop .inv .1, c .before .before .before .before .before .before .before .loop .inv .2, c .before .before .before .before .before .before .before .loop .inv .3)
 
 loop-again : tie.Need-loop-again Inv-loop μ-loop
 loop-again c = (
   omega arith,
-  omega arith,
-  simp length-set (c .before .before .before .before .before .before .before .before .loop .inv .2),
-  simp length-set (c .before .before .before .before .before .before .before .before .loop .inv .3),
-  ap (λ (z : Float). growIn (c .before .before .before .before .before .before .before .before .before .before .before .before .before .before .args .step) (set (c .before .before .before .before .before .before .before .before .loop .growth) (getD (c .before .before .before .before .before .before .before .before .before .before .before .before .before .before .args .touched .now) (c .before .before .before .before .before .before .before .before .loop .i) 0) z) (slice (c .before .before .before .before .before .before .before .before .loop .i + 1) (c .before .before .before .before .before .before .before .before .before .before .before .before .before .before .args .m) (c .before .before .before .before .before .before .before .before .before .before .before .before .before .before .args .touched .now)) (slice (c .before .before .before .before .before .before .before .before .loop .i + 1) (c .before .before .before .before .before .before .before .before .before .before .before .before .before .before .args .m) (c .before .before .before .before .before .before .before .before .before .before .before .before .before .before .args .cnt .now))) (c .before .before .before .moved .ensures) ∙ sym (grow-turn (c .before .before .before .before .before .before .before .before .before .before .before .before .before .before .args .touched .now) (c .before .before .before .before .before .before .before .before .before .before .before .before .before .before .args .cnt .now) (c .before .before .before .before .before .before .before .before .loop .i) (c .before .before .before .before .before .before .before .before .before .before .before .before .before .before .args .m) (omega arith) (c .before .before .before .before .before .before .before .before .before .before .before .before .before .before .pre .0 .touches) (c .before .before .before .before .before .before .before .before .before .before .before .before .before .before .pre .0 .cnts) (c .before .before .before .before .before .before .before .before .before .before .before .before .before .before .args .step) (c .before .before .before .before .before .before .before .before .loop .growth)) ∙ c .before .before .before .before .before .before .before .before .loop .inv .4,
-  ripe-turn (c .before .before .before .before .before .before .before .before .before .before .before .before .before .before .args .touched .now) (c .before .before .before .before .before .before .before .before .before .before .before .before .before .before .args .cnt .now) (c .before .before .before .before .before .before .before .before .loop .i) (c .before .before .before .before .before .before .before .before .before .before .before .before .before .before .args .m) (omega arith) (c .before .before .before .before .before .before .before .before .before .before .before .before .before .before .pre .0 .touches) (c .before .before .before .before .before .before .before .before .before .before .before .before .before .before .pre .0 .cnts) (c .before .before .before .before .before .before .before .before .before .before .before .before .before .before .args .edge) (c .before .before .before .before .before .before .before .before .before .before .before .before .before .before .args .step) (c .before .before .before .before .before .before .before .before .before .before .before .before .before .before .args .edge-weight .now) (c .before .before .before .before .before .before .before .before .loop .growth) (c .before .before .before .before .before .before .before .before .loop .k) (c .before .before .before .before .before .before .before .before .loop .fresh) _ (c .before .before .before .before .before .before .before .before .loop .inv .5) (c .before .before .before .moved .result) (c .before .before .before .moved .ensures) (omega (arith, c .before .before .before .before .before .before .before .before .before .before .before .before .before .before .pre .1 .1, c .before .before .before .before .before .before .before .before .loop .inv .3)) (sym (c .before .reaches .ensures) ∙ c .if1 .taken),
-)
-
-loop-less-2 : tie.Need-loop-less-2 Inv-loop μ-loop
-loop-less-2 c = omega (arith, c .before .before .before .before .before .before .before .before .before .before .before .before .before .before .pre .0 .inside (c .before .before .before .before .before .before .before .before .loop .i) (omega arith), c .before .before .before .before .before .before .before .before .before .before .before .before .before .before .pre .0 .touches, c .before .before .before .before .before .before .before .before .before .before .before .before .before .before .pre .0 .cnts, c .before .before .before .before .before .before .before .before .before .before .before .before .before .before .pre .1 .0, c .before .before .before .before .before .before .before .before .before .before .before .before .before .before .pre .1 .1, c .before .before .before .before .before .before .before .before .loop .inv .0, c .before .before .before .before .before .before .before .before .loop .inv .1, c .before .before .before .before .before .before .before .before .loop .inv .2, c .before .before .before .before .before .before .before .before .loop .inv .3)
-
-loop-again-2 : tie.Need-loop-again-2 Inv-loop μ-loop
-loop-again-2 c = (
-  omega arith,
-  omega arith,
-  simp length-set (c .before .before .before .before .before .before .before .before .loop .inv .2),
-  simp length-set (c .before .before .before .before .before .before .before .before .loop .inv .3),
-  ap (λ (z : Float). growIn (c .before .before .before .before .before .before .before .before .before .before .before .before .before .before .args .step) (set (c .before .before .before .before .before .before .before .before .loop .growth) (getD (c .before .before .before .before .before .before .before .before .before .before .before .before .before .before .args .touched .now) (c .before .before .before .before .before .before .before .before .loop .i) 0) z) (slice (c .before .before .before .before .before .before .before .before .loop .i + 1) (c .before .before .before .before .before .before .before .before .before .before .before .before .before .before .args .m) (c .before .before .before .before .before .before .before .before .before .before .before .before .before .before .args .touched .now)) (slice (c .before .before .before .before .before .before .before .before .loop .i + 1) (c .before .before .before .before .before .before .before .before .before .before .before .before .before .before .args .m) (c .before .before .before .before .before .before .before .before .before .before .before .before .before .before .args .cnt .now))) (c .before .before .before .moved .ensures) ∙ sym (grow-turn (c .before .before .before .before .before .before .before .before .before .before .before .before .before .before .args .touched .now) (c .before .before .before .before .before .before .before .before .before .before .before .before .before .before .args .cnt .now) (c .before .before .before .before .before .before .before .before .loop .i) (c .before .before .before .before .before .before .before .before .before .before .before .before .before .before .args .m) (omega arith) (c .before .before .before .before .before .before .before .before .before .before .before .before .before .before .pre .0 .touches) (c .before .before .before .before .before .before .before .before .before .before .before .before .before .before .pre .0 .cnts) (c .before .before .before .before .before .before .before .before .before .before .before .before .before .before .args .step) (c .before .before .before .before .before .before .before .before .loop .growth)) ∙ c .before .before .before .before .before .before .before .before .loop .inv .4,
-  ripe-skip (c .before .before .before .before .before .before .before .before .before .before .before .before .before .before .args .touched .now) (c .before .before .before .before .before .before .before .before .before .before .before .before .before .before .args .cnt .now) (c .before .before .before .before .before .before .before .before .loop .i) (c .before .before .before .before .before .before .before .before .before .before .before .before .before .before .args .m) (omega arith) (c .before .before .before .before .before .before .before .before .before .before .before .before .before .before .pre .0 .touches) (c .before .before .before .before .before .before .before .before .before .before .before .before .before .before .pre .0 .cnts) (c .before .before .before .before .before .before .before .before .before .before .before .before .before .before .args .edge) (c .before .before .before .before .before .before .before .before .before .before .before .before .before .before .args .step) (c .before .before .before .before .before .before .before .before .before .before .before .before .before .before .args .edge-weight .now) (c .before .before .before .before .before .before .before .before .loop .growth) (c .before .before .before .before .before .before .before .before .loop .k) (c .before .before .before .before .before .before .before .before .loop .fresh) _ (c .before .before .before .before .before .before .before .before .loop .inv .5) (c .before .before .before .moved .result) (c .before .before .before .moved .ensures) (sym (c .before .reaches .ensures) ∙ c .if1 .left),
+  simp byte-low (omega arith),
+  simp length-set (c .before .before .before .before .before .before .before .loop .inv .2),
+  simp length-set (c .before .before .before .before .before .before .before .loop .inv .3),
+  ap (λ (z : Float). growIn (c .before .before .before .before .before .before .before .before .before .before .before .before .before .args .step) (set (c .before .before .before .before .before .before .before .loop .growth) (getD (c .before .before .before .before .before .before .before .before .before .before .before .before .before .args .touched .now) (c .before .before .before .before .before .before .before .loop .i) 0) z) (slice (c .before .before .before .before .before .before .before .loop .i + 1) (c .before .before .before .before .before .before .before .before .before .before .before .before .before .args .m) (c .before .before .before .before .before .before .before .before .before .before .before .before .before .args .touched .now)) (slice (c .before .before .before .before .before .before .before .loop .i + 1) (c .before .before .before .before .before .before .before .before .before .before .before .before .before .args .m) (c .before .before .before .before .before .before .before .before .before .before .before .before .before .args .cnt .now))) (c .before .before .moved .ensures) ∙ sym (grow-turn (c .before .before .before .before .before .before .before .before .before .before .before .before .before .args .touched .now) (c .before .before .before .before .before .before .before .before .before .before .before .before .before .args .cnt .now) (c .before .before .before .before .before .before .before .loop .i) (c .before .before .before .before .before .before .before .before .before .before .before .before .before .args .m) (omega arith) (c .before .before .before .before .before .before .before .before .before .before .before .before .before .pre .0 .touches) (c .before .before .before .before .before .before .before .before .before .before .before .before .before .pre .0 .cnts) (c .before .before .before .before .before .before .before .before .before .before .before .before .before .args .step) (c .before .before .before .before .before .before .before .loop .growth)) ∙ c .before .before .before .before .before .before .before .loop .inv .4,
+  ripe-turn (c .before .before .before .before .before .before .before .before .before .before .before .before .before .args .touched .now) (c .before .before .before .before .before .before .before .before .before .before .before .before .before .args .cnt .now) (c .before .before .before .before .before .before .before .loop .i) (c .before .before .before .before .before .before .before .before .before .before .before .before .before .args .m) (omega arith) (c .before .before .before .before .before .before .before .before .before .before .before .before .before .pre .0 .touches) (c .before .before .before .before .before .before .before .before .before .before .before .before .before .pre .0 .cnts) (c .before .before .before .before .before .before .before .before .before .before .before .before .before .args .step) (c .before .before .before .before .before .before .before .before .before .before .before .before .before .args .edge-weight .now) (c .before .before .before .before .before .before .before .loop .growth) (c .before .before .before .before .before .before .before .loop .k) (c .before .before .before .before .before .before .before .loop .fresh) (omega (arith, c .before .before .before .before .before .before .before .before .before .before .before .before .before .pre .1 .1, c .before .before .before .before .before .before .before .loop .inv .3)) (c .before .before .moved .result) (c .before .before .moved .ensures) (c .reaches .result) (c .reaches .ensures) ∙ c .before .before .before .before .before .before .before .loop .inv .5,
 )
 
 same-length : tie.Need-same-length Inv-loop μ-loop
@@ -106,7 +96,7 @@ returns : tie.Need-returns Inv-loop μ-loop
 returns c = let q : c .before .loop .i ≡ c .before .before .before .before .before .before .before .args .m = omega arith in record {
   grows = sym (grow-end (c .before .before .before .before .before .before .before .args .step) (c .before .loop .growth) (c .before .before .before .before .before .before .before .args .touched .now) (c .before .before .before .before .before .before .before .args .cnt .now) (c .before .before .before .before .before .before .before .args .m)) ∙ (rw q at (c .before .loop .inv .4));
   few = omega arith;
-  ripe = sym (ripe-end (c .before .before .before .before .before .before .before .args .edge) (c .before .before .before .before .before .before .before .args .step) (c .before .before .before .before .before .before .before .args .edge-weight .now) (c .before .loop .growth) (take (c .before .loop .k) (c .before .loop .fresh)) (c .before .before .before .before .before .before .before .args .touched .now) (c .before .before .before .before .before .before .before .args .cnt .now) (c .before .before .before .before .before .before .before .args .m)) ∙ (rw q at (c .before .loop .inv .5));
+  ripe = sym (ripe-end (c .before .before .before .before .before .before .before .args .step) (c .before .before .before .before .before .before .before .args .edge-weight .now) (c .before .loop .growth) (take (c .before .loop .k) (c .before .loop .fresh)) (c .before .before .before .before .before .before .before .args .touched .now) (c .before .before .before .before .before .before .before .args .cnt .now) (c .before .before .before .before .before .before .before .args .m)) ∙ (rw q at (c .before .loop .inv .5));
 }
 
 pub grow-spec : {M : Type 1} → statement M
@@ -131,11 +121,10 @@ grow-spec =
     reaches-requires
     mul-fresh
     slice-write-fresh
+    cast-k
     add-k
     loop-less
     loop-again
-    loop-less-2
-    loop-again-2
     same-length
     same-length-2
     returns)

@@ -1,11 +1,9 @@
-use Prim.Native.Nat.{ℕ, suc, _-_, _+_, _*_, _≤_, _<_}
-use mathlib.Core.Path.{_≡_, refl, sym, ap, ap₂, _∙_}
-use mathlib.Core.Bool.{Bool, true, false, cond, not, _&&_, _||_, or-false}
+use Prim.Native.Nat.{_-_, _≤_}
+use mathlib.Core.Path.{_≡_, refl, sym, _∙_}
 use native.Mathlib.Omega.{arith}
-use lib.Dec.{eqb}
-use lib.ListN.{length, getD, set, take, length-set}
-use lib.Seq.{slice, slice-empty}
-use Rattle.rounds.specs.Passes.{firstShut, Checking}
+use lib.ListN.{take}
+use lib.Seq.{slice}
+use Rattle.rounds.specs.Passes.{firstShut}
 use Rattle.rounds.proofs.Laws.{shut-next, shut-here, shut-end}
 use Rattle.rounds.proofs.stuck.Statement.{statement}
 use Rattle.rounds.proofs.stuck.Tie as tie

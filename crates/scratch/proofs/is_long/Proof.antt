@@ -4,9 +4,6 @@ use borrow.Author.Needs.{needs}
 use Rattle.scratch.proofs.is_long.Statement.{statement}
 use Rattle.scratch.proofs.is_long.Tie as tie
 
-words-requires : tie.Need-words-requires
-words-requires c κs = search needs
-
 fits-requires : tie.Need-fits-requires
 fits-requires c κs = search needs
 
@@ -43,6 +40,12 @@ fits-requires-11 c κs = search needs
 fits-requires-12 : tie.Need-fits-requires-12
 fits-requires-12 c κs = search needs
 
+fits-past-requires : tie.Need-fits-past-requires
+fits-past-requires c κs = search needs
+
+fits-past-requires-2 : tie.Need-fits-past-requires-2
+fits-past-requires-2 c κs = search needs
+
 fits-requires-13 : tie.Need-fits-requires-13
 fits-requires-13 c κs = search needs
 
@@ -61,29 +64,16 @@ fits-requires-17 c κs = search needs
 fits-requires-18 : tie.Need-fits-requires-18
 fits-requires-18 c κs = search needs
 
-fits-requires-19 : tie.Need-fits-requires-19
-fits-requires-19 c κs = search needs
-
-fits-requires-20 : tie.Need-fits-requires-20
-fits-requires-20 c κs = search needs
-
-fits-requires-21 : tie.Need-fits-requires-21
-fits-requires-21 c κs = search needs
-
-fits-requires-22 : tie.Need-fits-requires-22
-fits-requires-22 c κs = search needs
-
-fits-past-requires : tie.Need-fits-past-requires
-fits-past-requires c κs = search needs
+fits-past-requires-3 : tie.Need-fits-past-requires-3
+fits-past-requires-3 c κs = search needs
 
 returns : tie.Need-returns
-returns c = all-long _ _ _ _ _ _ _ _ _ _ _ _ _ _ _ _ _ _ _ _ _ _ _ _ _ _ _ (c .before .before .before .before .before .before .before .before .before .before .before .before .before .before .before .before .before .before .before .before .before .before .before .before .before .words .ensures) (c .before .before .before .before .before .before .before .before .before .before .before .before .before .before .before .before .before .before .before .before .before .before .before .before .fits2 .ensures) (c .before .before .before .before .before .before .before .before .before .before .before .before .before .before .before .before .before .before .before .before .before .before .before .fits3 .ensures) (c .before .before .before .before .before .before .before .before .before .before .before .before .before .before .before .before .before .before .before .before .before .before .fits4 .ensures) (c .before .before .before .before .before .before .before .before .before .before .before .before .before .before .before .before .before .before .before .before .before .fits5 .ensures) (c .before .before .before .before .before .before .before .before .before .before .before .before .before .before .before .before .before .before .before .before .fits6 .ensures) (c .before .before .before .before .before .before .before .before .before .before .before .before .before .before .before .before .before .before .before .fits7 .ensures) (c .before .before .before .before .before .before .before .before .before .before .before .before .before .before .before .before .before .before .fits8 .ensures) (c .before .before .before .before .before .before .before .before .before .before .before .before .before .before .before .before .before .fits9 .ensures) (c .before .before .before .before .before .before .before .before .before .before .before .before .before .before .before .before .fits10 .ensures) (c .before .before .before .before .before .before .before .before .before .before .before .before .before .before .before .fits11 .ensures) (c .before .before .before .before .before .before .before .before .before .before .before .before .before .before .fits12 .ensures) (c .before .before .before .before .before .before .before .before .before .before .before .before .before .fits13 .ensures) (c .before .before .before .before .before .before .before .before .before .before .before .before .fits14 .ensures) (c .before .before .before .before .before .before .before .before .before .before .before .fits15 .ensures) (c .before .before .before .before .before .before .before .before .before .before .fits16 .ensures) (c .before .before .before .before .before .before .before .before .before .fits17 .ensures) (c .before .before .before .before .before .before .before .before .fits18 .ensures) (c .before .before .before .before .before .before .before .fits19 .ensures) (c .before .before .before .before .before .before .fits20 .ensures) (c .before .before .before .before .before .fits21 .ensures) (c .before .before .before .fits22 .ensures) (c .before .fits23 .ensures) (c .fits-past .ensures)
+returns c = all-long _ _ _ _ _ _ _ _ _ _ _ _ _ _ _ _ _ _ _ _ _ _ _ _ (c .before .before .before .before .before .before .before .before .before .before .before .before .before .before .before .before .before .before .before .before .before .before .fits2 .ensures) (c .before .before .before .before .before .before .before .before .before .before .before .before .before .before .before .before .before .before .before .before .before .fits3 .ensures) (c .before .before .before .before .before .before .before .before .before .before .before .before .before .before .before .before .before .before .before .before .fits4 .ensures) (c .before .before .before .before .before .before .before .before .before .before .before .before .before .before .before .before .before .before .before .fits5 .ensures) (c .before .before .before .before .before .before .before .before .before .before .before .before .before .before .before .before .before .before .fits6 .ensures) (c .before .before .before .before .before .before .before .before .before .before .before .before .before .before .before .before .before .fits7 .ensures) (c .before .before .before .before .before .before .before .before .before .before .before .before .before .before .before .before .fits8 .ensures) (c .before .before .before .before .before .before .before .before .before .before .before .before .before .before .before .fits9 .ensures) (c .before .before .before .before .before .before .before .before .before .before .before .before .before .before .fits10 .ensures) (c .before .before .before .before .before .before .before .before .before .before .before .before .before .fits11 .ensures) (c .before .before .before .before .before .before .before .before .before .before .before .before .fits12 .ensures) (c .before .before .before .before .before .before .before .before .before .before .before .fits13 .ensures) (c .before .before .before .before .before .before .before .before .before .before .fits-past .ensures) (c .before .before .before .before .before .before .before .before .before .fits-past2 .ensures) (c .before .before .before .before .before .before .before .before .fits14 .ensures) (c .before .before .before .before .before .before .before .fits15 .ensures) (c .before .before .before .before .before .before .fits16 .ensures) (c .before .before .before .before .before .fits17 .ensures) (c .before .before .before .fits18 .ensures) (c .before .fits19 .ensures) (c .fits-past3 .ensures)
 
 pub is-long-spec : {M : Type 1} → statement M
 is-long-spec =
     tie.close
     (tie.spec
-    words-requires
     fits-requires
     fits-requires-2
     fits-requires-3
@@ -96,15 +86,13 @@ is-long-spec =
     fits-requires-10
     fits-requires-11
     fits-requires-12
+    fits-past-requires
+    fits-past-requires-2
     fits-requires-13
     fits-requires-14
     fits-requires-15
     fits-requires-16
     fits-requires-17
     fits-requires-18
-    fits-requires-19
-    fits-requires-20
-    fits-requires-21
-    fits-requires-22
-    fits-past-requires
+    fits-past-requires-3
     returns)

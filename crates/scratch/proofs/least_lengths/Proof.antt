@@ -1,4 +1,5 @@
 -- `scratch::least_lengths` meets its contract.
+use mathlib.Core.Path.{refl}
 use Rattle.scratch.specs.Scratch.{lengthsFor}
 use borrow.Author.Needs.{needs}
 use Rattle.scratch.proofs.least_lengths.Statement.{statement}
@@ -10,12 +11,15 @@ mul-ends c = search needs
 add-t4 : tie.Need-add-t4
 add-t4 c = search needs
 
-words-requires : tie.Need-words-requires
-words-requires c κs = search needs
+add-t5 : tie.Need-add-t5
+add-t5 c = search needs
+
+add-t6 : tie.Need-add-t6
+add-t6 c = search needs
 
 returns : tie.Need-returns
 unfolding lengthsFor
-returns c = simp (c .words .ensures)
+returns c = refl
 
 pub least-lengths-spec : {M : Type 1} → statement M
-least-lengths-spec = tie.close (tie.spec mul-ends add-t4 words-requires returns)
+least-lengths-spec = tie.close (tie.spec mul-ends add-t4 add-t5 add-t6 returns)

@@ -66,20 +66,14 @@ slice-aggregate-decode-shot-20 c = search needs
 slice-aggregate-decode-shot-21 : tie.Need-slice-aggregate-decode-shot-21
 slice-aggregate-decode-shot-21 c = search needs
 
-slice-aggregate-decode-shot-22 : tie.Need-slice-aggregate-decode-shot-22
-slice-aggregate-decode-shot-22 c = search needs
-
-slice-aggregate-decode-shot-23 : tie.Need-slice-aggregate-decode-shot-23
-slice-aggregate-decode-shot-23 c = search needs
-
 decode-shot-requires : tie.Need-decode-shot-requires
 decode-shot-requires c κs = search needs
 
 same-length : tie.Need-same-length
-same-length c = c .before .before .before .before .before .before .before .before .before .before .before .before .before .before .before .before .before .before .before .before .before .before .before .before .before .before .before .decode-shot .kept .1 .1 .1 .0
+same-length c = c .before .before .before .before .before .before .before .before .before .before .before .before .before .before .before .before .before .before .before .before .before .before .before .before .before .decode-shot .kept .1 .1 .1 .0
 
 same-length-2 : tie.Need-same-length-2
-same-length-2 c = c .before .before .before .before .before .before .before .before .before .before .before .before .before .before .before .before .before .before .before .before .before .before .before .before .before .before .before .decode-shot .kept .1 .1 .1 .1 .0
+same-length-2 c = c .before .before .before .before .before .before .before .before .before .before .before .before .before .before .before .before .before .before .before .before .before .before .before .before .before .decode-shot .kept .1 .1 .1 .1 .0
 
 returns : tie.Need-returns
 returns c = search needs
@@ -109,8 +103,6 @@ decode-spec =
     slice-aggregate-decode-shot-19
     slice-aggregate-decode-shot-20
     slice-aggregate-decode-shot-21
-    slice-aggregate-decode-shot-22
-    slice-aggregate-decode-shot-23
     decode-shot-requires
     same-length
     same-length-2

@@ -38,4 +38,15 @@ returns c = record {
 }
 
 pub reset-growth-spec : {M : Type 1} → statement M
-reset-growth-spec = tie.close (tie.spec fill-bool-requires fill-f64-requires fill-bool-requires-2 fill-bool-requires-3 same-length same-length-2 same-length-3 same-length-4 returns)
+reset-growth-spec =
+    tie.close
+    (tie.spec
+    fill-bool-requires
+    fill-f64-requires
+    fill-bool-requires-2
+    fill-bool-requires-3
+    same-length
+    same-length-2
+    same-length-3
+    same-length-4
+    returns)
