@@ -43,7 +43,7 @@ pub fn detector_at(d: usize, x: u32, y: u32) -> u32
     if y as usize == d { x } else { y }
 }
 
-// Lists the open edges of the live detector x from `from` on, beside each the count of its live ends, frees the cluster of x if there is one, and returns the place past them. An edge whose other end is live too is listed at the lower of the two. Each edge is written before it is known whether it is listed, since that cannot be foretold. Long for its parameters, one a line.
+// Lists the open edges of the live detector x from `from` on, beside each the count of its live ends, frees the cluster of x if there is one, and returns the place past them. An edge whose other end is live too is listed at the lower of the two. Each open edge is written before it is known whether it is listed, since that cannot be foretold. Long for its parameters, one a line.
 pub fn count_at(
     free: &mut [bool],
     touched: &mut [u32],
@@ -75,13 +75,16 @@ pub fn count_at(
         let e = adj_edge[k];
         let y = far[k];
         k += 1;
+        let saturated = sat[e as usize];
+        if saturated {
+            continue;
+        }
+        found = true;
         let q = parent[detector_at(d, x, y) as usize];
         let live = (y as usize != d) & hot[q as usize];
-        let open = !sat[e as usize];
-        found = found | open;
         touched[at] = e;
         cnt[at] = 1 + live as u8;
-        at += (open & (!live | (x < y))) as usize;
+        at += (!live | (x < y)) as usize;
     }
     if found {
         free[r as usize] = true;

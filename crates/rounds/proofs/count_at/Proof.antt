@@ -7,7 +7,7 @@ use lib.ListN.{getD, length-set}
 use lib.Seq.{slice, slice-empty}
 use Rattle.adjacency.proofs.Stars.{adj-slice, adj-rising, adj-ends}
 use Rattle.growth_state.proofs.Laws.{slice-next}
-use Rattle.rounds.proofs.Laws.{byte-low, Listing, listing-turn, counted, edge-in, far-is, far-le, near-in}
+use Rattle.rounds.proofs.Laws.{byte-low, Listing, listing-open, listing-skip, counted, edge-in, far-is, far-le, near-in}
 use Rattle.rounds.proofs.count_at.Statement.{statement}
 use Rattle.rounds.proofs.count_at.Tie as tie
 
@@ -94,59 +94,69 @@ add-k c =
     let pre = c .before .before .before .before .before .before .before .before .before .before .before .before .before .before .before .before .before .before .pre in
     omega (arith, adj-ends (pre .0 .adjacent) (c .before .before .before .before .before .before .before .before .before .before .before .before .before .before .before .before .before .before .args .x) (pre .1 .0))
 
+cast-saturated : tie.Need-cast-saturated Inv-loop μ-loop
+cast-saturated c =
+    let pre = c .before .before .before .before .before .before .before .before .before .before .before .before .before .before .before .before .before .before .pre in
+    omega (arith, edge-in (pre .0) (pre .1 .0) (c .before .before .before .loop .inv .0) (c .before .before .loop-test .taken), pre .0 .sats)
+
+shared-slice-read-saturated : tie.Need-shared-slice-read-saturated Inv-loop μ-loop
+shared-slice-read-saturated c =
+    let pre = c .before .before .before .before .before .before .before .before .before .before .before .before .before .before .before .before .before .before .before .pre in
+    omega (arith, edge-in (pre .0) (pre .1 .0) (c .before .before .before .before .loop .inv .0) (c .before .before .before .loop-test .taken), pre .0 .sats)
+
+loop-less : tie.Need-loop-less Inv-loop μ-loop
+loop-less c = omega arith
+
+loop-again : tie.Need-loop-again Inv-loop μ-loop
+loop-again c =
+    let loop = c .before .before .before .before .before .loop in
+    let args = c .before .before .before .before .before .before .before .before .before .before .before .before .before .before .before .before .before .before .before .before .args in
+    let pre = c .before .before .before .before .before .before .before .before .before .before .before .before .before .before .before .before .before .before .before .before .pre in
+    (omega arith, omega arith, listing-skip (rw (slice-next (loop .k) (getD (args .adj-offsets .now) (args .x + 1) 0) (args .adj-edge .now) (c .before .before .before .before .loop-test .taken) (adj-ends (pre .0 .adjacent) (args .x) (pre .1 .0))) at (loop .inv .2)) (c .if1 .taken))
+
 detector-at-requires : tie.Need-detector-at-requires Inv-loop μ-loop
 detector-at-requires c κs = tt
 
 cast-q : tie.Need-cast-q Inv-loop μ-loop
 cast-q c =
-    let pre = c .before .before .before .before .before .before .before .before .before .before .before .before .before .before .before .before .before .before .before .pre in
-    omega (arith, near-in (pre .0) (pre .1 .0) (c .before .before .before .before .loop .inv .0) (c .before .before .before .loop-test .taken) (c .detector-at .ensures), pre .0 .ends .small)
+    let pre = c .before .before .before .before .before .before .before .before .before .before .before .before .before .before .before .before .before .before .before .before .before .pre in
+    omega (arith, near-in (pre .0) (pre .1 .0) (c .before .before .before .before .before .before .loop .inv .0) (c .before .before .before .before .before .loop-test .taken) (c .detector-at .ensures), pre .0 .ends .small)
 
 mul-q : tie.Need-mul-q Inv-loop μ-loop
 mul-q c =
-    let pre = c .before .before .before .before .before .before .before .before .before .before .before .before .before .before .before .before .before .before .before .pre in
-    omega (arith, near-in (pre .0) (pre .1 .0) (c .before .before .before .before .loop .inv .0) (c .before .before .before .loop-test .taken) (c .detector-at .ensures), pre .0 .ends .small)
+    let pre = c .before .before .before .before .before .before .before .before .before .before .before .before .before .before .before .before .before .before .before .before .before .pre in
+    omega (arith, near-in (pre .0) (pre .1 .0) (c .before .before .before .before .before .before .loop .inv .0) (c .before .before .before .before .before .loop-test .taken) (c .detector-at .ensures), pre .0 .ends .small)
 
 shared-slice-read-q : tie.Need-shared-slice-read-q Inv-loop μ-loop
 shared-slice-read-q c =
-    let pre = c .before .before .before .before .before .before .before .before .before .before .before .before .before .before .before .before .before .before .before .before .pre in
-    omega (arith, near-in (pre .0) (pre .1 .0) (c .before .before .before .before .before .loop .inv .0) (c .before .before .before .before .loop-test .taken) (c .before .detector-at .ensures), pre .0 .long)
+    let pre = c .before .before .before .before .before .before .before .before .before .before .before .before .before .before .before .before .before .before .before .before .before .before .pre in
+    omega (arith, near-in (pre .0) (pre .1 .0) (c .before .before .before .before .before .before .before .loop .inv .0) (c .before .before .before .before .before .before .loop-test .taken) (c .before .detector-at .ensures), pre .0 .long)
 
 cast-live : tie.Need-cast-live Inv-loop μ-loop
 cast-live c =
-    let pre = c .before .before .before .before .before .before .before .before .before .before .before .before .before .before .before .before .before .before .before .before .pre in
-    omega (arith, far-le (pre .0) (pre .1 .0) (c .before .before .before .before .before .loop .inv .0) (c .before .before .before .before .loop-test .taken), pre .0 .ends .small)
+    let pre = c .before .before .before .before .before .before .before .before .before .before .before .before .before .before .before .before .before .before .before .before .before .before .pre in
+    omega (arith, far-le (pre .0) (pre .1 .0) (c .before .before .before .before .before .before .before .loop .inv .0) (c .before .before .before .before .before .before .loop-test .taken), pre .0 .ends .small)
 
 cast-live-2 : tie.Need-cast-live-2 Inv-loop μ-loop
 cast-live-2 c =
-    let pre = c .before .before .before .before .before .before .before .before .before .before .before .before .before .before .before .before .before .before .before .before .pre in
-    omega (arith, pre .0 .points (c .before .detector-at .result) (near-in (pre .0) (pre .1 .0) (c .before .before .before .before .before .loop .inv .0) (c .before .before .before .before .loop-test .taken) (c .before .detector-at .ensures)), pre .0 .ends .small)
+    let pre = c .before .before .before .before .before .before .before .before .before .before .before .before .before .before .before .before .before .before .before .before .before .before .pre in
+    omega (arith, pre .0 .points (c .before .detector-at .result) (near-in (pre .0) (pre .1 .0) (c .before .before .before .before .before .before .before .loop .inv .0) (c .before .before .before .before .before .before .loop-test .taken) (c .before .detector-at .ensures)), pre .0 .ends .small)
 
 shared-slice-read-live : tie.Need-shared-slice-read-live Inv-loop μ-loop
 shared-slice-read-live c =
-    let pre = c .before .before .before .before .before .before .before .before .before .before .before .before .before .before .before .before .before .before .before .before .before .pre in
+    let pre = c .before .before .before .before .before .before .before .before .before .before .before .before .before .before .before .before .before .before .before .before .before .before .before .pre in
     let detector-at = c .before .before .detector-at in
-    omega (arith, pre .0 .points (detector-at .result) (near-in (pre .0) (pre .1 .0) (c .before .before .before .before .before .before .loop .inv .0) (c .before .before .before .before .before .loop-test .taken) (detector-at .ensures)), pre .0 .hots)
-
-cast-open : tie.Need-cast-open Inv-loop μ-loop
-cast-open c =
-    let pre = c .before .before .before .before .before .before .before .before .before .before .before .before .before .before .before .before .before .before .before .before .before .pre in
-    omega (arith, edge-in (pre .0) (pre .1 .0) (c .before .before .before .before .before .before .loop .inv .0) (c .before .before .before .before .before .loop-test .taken), pre .0 .sats)
-
-shared-slice-read-open : tie.Need-shared-slice-read-open Inv-loop μ-loop
-shared-slice-read-open c =
-    let pre = c .before .before .before .before .before .before .before .before .before .before .before .before .before .before .before .before .before .before .before .before .before .before .pre in
-    omega (arith, edge-in (pre .0) (pre .1 .0) (c .before .before .before .before .before .before .before .loop .inv .0) (c .before .before .before .before .before .before .loop-test .taken), pre .0 .sats)
+    omega (arith, pre .0 .points (detector-at .result) (near-in (pre .0) (pre .1 .0) (c .before .before .before .before .before .before .before .before .loop .inv .0) (c .before .before .before .before .before .before .before .loop-test .taken) (detector-at .ensures)), pre .0 .hots)
 
 mul-touched : tie.Need-mul-touched Inv-loop μ-loop
 mul-touched c =
-    let loop = c .before .before .before .before .before .before .before .loop in
-    omega (arith, c .before .before .before .before .before .before .before .before .before .before .before .before .before .before .before .before .before .before .before .before .before .before .pre .1 .1 .0, loop .inv .2 .long, loop .inv .2 .past)
+    let loop = c .before .before .before .before .before .before .before .before .loop in
+    omega (arith, c .before .before .before .before .before .before .before .before .before .before .before .before .before .before .before .before .before .before .before .before .before .before .before .pre .1 .1 .0, loop .inv .2 .long, loop .inv .2 .past)
 
 slice-write-touched : tie.Need-slice-write-touched Inv-loop μ-loop
 slice-write-touched c =
-    let loop = c .before .before .before .before .before .before .before .loop in
-    omega (arith, c .before .before .before .before .before .before .before .before .before .before .before .before .before .before .before .before .before .before .before .before .before .before .pre .1 .1 .0, loop .inv .2 .long, loop .inv .2 .past)
+    let loop = c .before .before .before .before .before .before .before .before .loop in
+    omega (arith, c .before .before .before .before .before .before .before .before .before .before .before .before .before .before .before .before .before .before .before .before .before .before .before .pre .1 .1 .0, loop .inv .2 .long, loop .inv .2 .past)
 
 cast-cnt : tie.Need-cast-cnt Inv-loop μ-loop
 cast-cnt c = omega arith
@@ -156,31 +166,27 @@ add-cnt c = simp byte-low (omega arith)
 
 slice-write-cnt : tie.Need-slice-write-cnt Inv-loop μ-loop
 slice-write-cnt c =
-    let loop = c .before .before .before .before .before .before .before .loop in
-    omega (arith, c .before .before .before .before .before .before .before .before .before .before .before .before .before .before .before .before .before .before .before .before .before .before .pre .1 .1 .1, loop .inv .2 .longs, loop .inv .2 .past)
+    let loop = c .before .before .before .before .before .before .before .before .loop in
+    omega (arith, c .before .before .before .before .before .before .before .before .before .before .before .before .before .before .before .before .before .before .before .before .before .before .before .pre .1 .1 .1, loop .inv .2 .longs, loop .inv .2 .past)
 
 cast-at : tie.Need-cast-at Inv-loop μ-loop
 cast-at c = omega arith
 
 add-at : tie.Need-add-at Inv-loop μ-loop
 add-at c =
-    let loop = c .before .before .before .before .before .before .before .loop in
-    simp byte-low (omega (arith, c .before .before .before .before .before .before .before .before .before .before .before .before .before .before .before .before .before .before .before .before .before .before .pre .1 .1 .0, loop .inv .2 .long, loop .inv .2 .past))
+    let loop = c .before .before .before .before .before .before .before .before .loop in
+    simp byte-low (omega (arith, c .before .before .before .before .before .before .before .before .before .before .before .before .before .before .before .before .before .before .before .before .before .before .before .pre .1 .1 .0, loop .inv .2 .long, loop .inv .2 .past))
 
-loop-less : tie.Need-loop-less Inv-loop μ-loop
-loop-less c = omega arith
+loop-less-2 : tie.Need-loop-less-2 Inv-loop μ-loop
+loop-less-2 c = omega arith
 
-loop-again : tie.Need-loop-again Inv-loop μ-loop
-loop-again c =
-    let loop = c .before .before .before .before .before .before .before .loop in
-    let args = c .before .before .before .before .before .before .before .before .before .before .before .before .before .before .before .before .before .before .before .before .before .before .args in
-    let loop-test = c .before .before .before .before .before .before .loop-test in
-    let pre = c .before .before .before .before .before .before .before .before .before .before .before .before .before .before .before .before .before .before .before .before .before .before .pre in (
-      omega arith,
-      omega arith,
-      listing-turn (rw (slice-next (loop .k) (getD (args .adj-offsets .now) (args .x + 1) 0) (args .adj-edge .now) (loop-test .taken) (adj-ends (pre .0 .adjacent) (args .x) (pre .1 .0))) at (loop .inv .2))
-          (omega (arith, pre .1 .1 .0, loop .inv .2 .long, loop .inv .2 .past)) (omega (arith, pre .1 .1 .1, loop .inv .2 .longs, loop .inv .2 .past)) (far-is (pre .0) (pre .1 .0) (loop .inv .0) (loop-test .taken)) (c .before .before .before .detector-at .ensures),
-    )
+loop-again-2 : tie.Need-loop-again-2 Inv-loop μ-loop
+loop-again-2 c =
+    let loop = c .before .before .before .before .before .before .before .before .loop in
+    let args = c .before .before .before .before .before .before .before .before .before .before .before .before .before .before .before .before .before .before .before .before .before .before .before .args in
+    let loop-test = c .before .before .before .before .before .before .before .loop-test in
+    let pre = c .before .before .before .before .before .before .before .before .before .before .before .before .before .before .before .before .before .before .before .before .before .before .before .pre in
+    (omega arith, omega arith, listing-open (rw (slice-next (loop .k) (getD (args .adj-offsets .now) (args .x + 1) 0) (args .adj-edge .now) (loop-test .taken) (adj-ends (pre .0 .adjacent) (args .x) (pre .1 .0))) at (loop .inv .2)) (omega (arith, pre .1 .1 .0, loop .inv .2 .long, loop .inv .2 .past)) (omega (arith, pre .1 .1 .1, loop .inv .2 .longs, loop .inv .2 .past)) (far-is (pre .0) (pre .1 .0) (loop .inv .0) (loop-test .taken)) (c .before .before .detector-at .ensures) (c .before .before .before .if1 .left))
 
 cast-free : tie.Need-cast-free Inv-loop μ-loop
 cast-free c =
@@ -207,7 +213,7 @@ returns : tie.Need-returns Inv-loop μ-loop
 returns c =
     let loop = c .before .before .loop in
     let args = c .before .before .before .before .before .before .before .before .before .before .before .before .before .before .before .before .before .args in
-    counted (rw (let q : loop .k ≡ getD (args .adj-offsets .now) (args .x + 1) 0 = omega arith in q, slice-empty (getD (args .adj-offsets .now) (args .x + 1) 0) (args .adj-edge .now)) at (loop .inv .2)) (rw (c .if1 .taken))
+    counted (rw (let q : loop .k ≡ getD (args .adj-offsets .now) (args .x + 1) 0 = omega arith in q, slice-empty (getD (args .adj-offsets .now) (args .x + 1) 0) (args .adj-edge .now)) at (loop .inv .2)) (rw (c .if2 .taken))
 
 same-length-4 : tie.Need-same-length-4 Inv-loop μ-loop
 same-length-4 c = c .before .before .loop .inv .2 .long
@@ -219,7 +225,7 @@ returns-2 : tie.Need-returns-2 Inv-loop μ-loop
 returns-2 c =
     let loop = c .before .before .loop in
     let args = c .before .before .before .before .before .before .before .before .before .before .before .before .before .before .before .before .before .args in
-    counted (rw (let q : loop .k ≡ getD (args .adj-offsets .now) (args .x + 1) 0 = omega arith in q, slice-empty (getD (args .adj-offsets .now) (args .x + 1) 0) (args .adj-edge .now)) at (loop .inv .2)) (rw (c .if1 .left))
+    counted (rw (let q : loop .k ≡ getD (args .adj-offsets .now) (args .x + 1) 0 = omega arith in q, slice-empty (getD (args .adj-offsets .now) (args .x + 1) 0) (args .adj-edge .now)) at (loop .inv .2)) (rw (c .if2 .left))
 
 pub count-at-spec : {M : Type 1} → statement M
 count-at-spec =
@@ -242,6 +248,10 @@ count-at-spec =
     mul-y
     shared-slice-read-y
     add-k
+    cast-saturated
+    shared-slice-read-saturated
+    loop-less
+    loop-again
     detector-at-requires
     cast-q
     mul-q
@@ -249,8 +259,6 @@ count-at-spec =
     cast-live
     cast-live-2
     shared-slice-read-live
-    cast-open
-    shared-slice-read-open
     mul-touched
     slice-write-touched
     cast-cnt
@@ -258,8 +266,8 @@ count-at-spec =
     slice-write-cnt
     cast-at
     add-at
-    loop-less
-    loop-again
+    loop-less-2
+    loop-again-2
     cast-free
     slice-write-free
     same-length
