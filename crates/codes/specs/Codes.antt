@@ -3,6 +3,8 @@ use Prim.Native.Nat.{ℕ}
 use mathlib.Core.List.{List, [], _∷_}
 use lib.ListN.{getD}
 use Rattle.codes.specs.declared.Refusal.{Refusal}
+use Rattle.codes.specs.declared.Checked.{Checked}
+use Rattle.codes.specs.declared.Checked.the-variants as checked
 use Rattle.codes.specs.declared.Refusal.the-variants.{Limit, Short, Frame, Probability, Index, NoCover, NotGraphlike, Length, Padding, Width, Stuck, Shape, Edge}
 
 -- "Returned": the number
@@ -43,3 +45,23 @@ firstOf r = getD (valuesOf r) 0 0
 
 abbrev pub secondOf : Refusal → ℕ
 secondOf r = getD (valuesOf r) 1 0
+
+-- ---- an answer, as the sheet has it
+
+-- its number, which is 0 where nothing is refused, and the values beside it: of a refusal the sheet's, else what the answer carries
+pub record Sheet : Type 0 where
+  pub code : ℕ
+  pub values : List ℕ
+
+-- the row of a refusal
+abbrev pub refusalRow : Refusal → Sheet
+refusalRow r = record { code = codeOf r; values = valuesOf r }
+
+-- no refusal, and the values carried
+abbrev pub successRow : List ℕ → Sheet
+successRow values = record { code = 0; values = values }
+
+-- what a check comes to
+abbrev pub checkedRow : Checked → Sheet
+checkedRow checked.Accepted = successRow []
+checkedRow (checked.Refused r) = refusalRow r

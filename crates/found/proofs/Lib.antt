@@ -9,6 +9,7 @@ pub mod Rounds
 pub mod Kept
 pub mod Moves
 pub mod Outcome
+pub mod OneCount
 pub mod NoCorrection
 pub mod Trees
 pub mod Meets

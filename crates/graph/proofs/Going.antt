@@ -30,7 +30,7 @@ use Rattle.dem.proofs.Laws.{count, split, place-first}
 use Rattle.graph.specs.declared.Compiled.{Compiled}
 use Rattle.graph.specs.declared.Compiled.the-variants as compiled
 use Rattle.graph.specs.Compile.{Edge, Edges, into, refused, share, joinBy, isZero, joinNext, next, edgesFrom, compile}
-use Rattle.graph.specs.Chains.{none, lastWith, Chained}
+use Rattle.graph.specs.Chains.{chainEnd, lastWith, Chained}
 use Rattle.graph.specs.Tables.{Slices, filled, Room}
 use Rattle.graph.specs.Outcome.{slicesLong, checkSlices, Joined, Joins, ChainedBy}
 
@@ -112,16 +112,16 @@ module _ (d o : ℕ) (t : Tables) where
     pub tables : out ≡ filled o (edgesIn (compile d o (modelOf i t))) was
     pub chained : Chained many (out .edge-u) (out .edge-v) first next
 
-  no-edges : (u v first next : List ℕ) (k : ℕ) → Chained 0 u v (replicate k none) next
+  no-edges : (u v first next : List ℕ) (k : ℕ) → Chained 0 u v (replicate k chainEnd) next
   unfolding lastWith
   no-edges u v first next k = record {
     few = omega arith;
-    starts = λ a l. getD-replicate k a none 0 (rw (length-replicate k none) at l);
+    starts = λ a l. getD-replicate k a chainEnd 0 (rw (length-replicate k chainEnd) at l);
     goes-on = λ e l. let z : ⊥ = omega arith in absurd z;
     distinct = λ i j l m. let z : ⊥ = omega arith in absurd z;
   }
 
-  pub going-first : (n : ℕ) (was : Slices) (k : ℕ) (first next : List ℕ) → first ≡ replicate k none → Going n was 0 (record { component = 0; entry = 0 }) 0 was first next
+  pub going-first : (n : ℕ) (was : Slices) (k : ℕ) (first next : List ℕ) → first ≡ replicate k chainEnd → Going n was 0 (record { component = 0; entry = 0 }) 0 was first next
   unfolding compile edgesFrom modelOf filled
   going-first n was k first next e = record {
     here = omega arith;

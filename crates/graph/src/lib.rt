@@ -16,7 +16,7 @@ ghost use Rattle.dem.specs.Positions.{tables, mechanismAt, Inside};
 ghost use Rattle.graph.specs.Compile.{Edge, into, next as nextEdges, compile, obsRow};
 ghost use Rattle.graph.specs.Outcome.{checkSlices, outcome, Compiles, Joined, Joins, ChainedBy};
 ghost use Rattle.graph.specs.Tables.{slices, putRow, secondEnd, edgeWith, Room, Shares};
-ghost use Rattle.graph.specs.Chains.{none, lastEnds, Chained};
+ghost use Rattle.graph.specs.Chains.{lastEnds, Chained};
 use codes::Checked;
 use codes::Refusal;
 use dem::Mechanism;

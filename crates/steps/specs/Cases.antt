@@ -100,13 +100,13 @@ pub record Readings : Type 0 where
   -- Stuck names the first stuck cluster in the active order, which is not the lowest component that is odd
   pub stuck-in-order : decode (pairs 3 (0 ∷ []) (2 ∷ []) (w1 ∷ [])) (true ∷ true ∷ false ∷ []) ≡ impossible 0 1
 
--- ---- the added clause of step 2, where alone it decides: on weights past 1,024, which no accepted graph has
+-- ---- the added clause of step 2. On accepted graphs it decides nothing, as `growth_laws` proves: `taken`
 
--- the two boundary edges fall short of their weight by rounding
+-- weights past 1,024, so not accepted: the two boundary edges fall short of their weight by rounding, and the clause decides
 unfoldable pub heavy : Graph
 heavy = record { detectors = 2; observables = 0; edge-u = 0 ∷ 0 ∷ 0 ∷ []; edge-v = 1 ∷ boundary ∷ boundary ∷ []; edge-weight = w1 ∷ Ieee.ofBits binary64 0x434001599a975925 ∷ Ieee.ofBits binary64 0x434001599a975925 ∷ []; edge-obs = [] ∷ [] ∷ [] ∷ [] }
 
--- two boundary edges of infinite weight
+-- two boundary edges of infinite weight; accepted
 unfoldable pub endless : Graph
 endless = record { detectors = 1; observables = 0; edge-u = 0 ∷ 0 ∷ []; edge-v = boundary ∷ boundary ∷ []; edge-weight = inf false ∷ inf false ∷ []; edge-obs = [] ∷ [] ∷ [] }
 

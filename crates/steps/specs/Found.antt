@@ -77,6 +77,25 @@ pub record Rounds (g : Graph) (lit : List Bool) (n : ℕ) : Type 0 where
   pub each : (k : ℕ) → k < n → Finished g lit k
   pub few : n ≤ length (g .edge-u)
 
+-- growth has ended after n rounds: no cluster is active,
+abbrev pub NoneActive : Graph → List Bool → ℕ → Type 0
+NoneActive g lit n = after g lit n .active ≡ []
+
+-- or the first stuck cluster is that of d
+abbrev pub Halted : Graph → List Bool → ℕ → ℕ → Type 0
+Halted g lit n d = firstStuck g lit (after g lit n) (after g lit n .active) ≡ some d
+
+-- n is the number of rounds finished: so many are, and no further one is begun
+pub record AllRounds (g : Graph) (lit : List Bool) (n : ℕ) : Type 0 where
+  pub finished : Rounds g lit n
+  pub over : turn g lit (after g lit n) ≡ onward → ⊥
+
+-- which both ends of growth tell, and which is one number
+pub record OneCount (g : Graph) (lit : List Bool) : Type 0 where
+  pub none-active : (n : ℕ) → Rounds g lit n → NoneActive g lit n → AllRounds g lit n
+  pub halted : (n d : ℕ) → Rounds g lit n → Halted g lit n d → AllRounds g lit n
+  pub same : (m n : ℕ) → AllRounds g lit m → AllRounds g lit n → m ≡ n
+
 -- ---- the detector that Stuck names, after n rounds
 
 -- the cluster of c after n rounds, by its lowest detector
@@ -152,9 +171,9 @@ module _ (p : Programs) (g : Graph) (lit : List Bool) where
     pub judged : (es : List ℕ) → fit g es ≡ true → Judged es
     pub refused : (es : List ℕ) → fit g es ≡ false → p .marks g lit es ≡ unfit
     -- "rounds finished never exceed the edges, each saturating a new one": after them no cluster is active,
-    pub rounds : (n : ℕ) (list : List ℕ) → p .decodes g lit ≡ corrected n list → Rounds g lit n × (after g lit n .active ≡ [])
+    pub rounds : (n : ℕ) (list : List ℕ) → p .decodes g lit ≡ corrected n list → Rounds g lit n × NoneActive g lit n
     -- or the first stuck cluster is the one named,
-    pub rounds-stuck : (n d : ℕ) → p .decodes g lit ≡ impossible n d → Rounds g lit n × (firstStuck g lit (after g lit n) (after g lit n .active) ≡ some d)
+    pub rounds-stuck : (n d : ℕ) → p .decodes g lit ≡ impossible n d → Rounds g lit n × Halted g lit n d
     -- by its lowest detector
     pub named : (n d : ℕ) → p .decodes g lit ≡ impossible n d → Named g lit n d
 
