@@ -10,6 +10,7 @@ use borrow.Author.Tests.{leb-true, not-false}
 use Rattle.lists.specs.Lists.{below}
 use Rattle.lists.proofs.Truth.{and-left, and-right}
 use Rattle.bits.specs.Rows.{words}
+use Rattle.codes.specs.Codes.{checkedRow}
 use Rattle.codes.specs.declared.Refusal.{Refusal}
 use Rattle.codes.specs.declared.Refusal.the-variants.{Short}
 use Rattle.codes.specs.declared.Checked.{Checked}
@@ -60,7 +61,7 @@ module _ (h : Handed) where
   checks-by long c p q = q ∙ ap (λ (b : Bool). checkCall (h .graph) b (h .rows) (h .shots) (h .width)) p
 
   pub refused : {r : Refusal} → Refused r ≡ checks h → Decodes h (Refused r) (h .out)
-  refused e = record { answers = rw (sym e) refl; rows = rw (sym e) refl }
+  refused e = record { sheet = rw (sym e) refl; answers = rw (sym e) refl; rows = rw (sym e) refl }
 
   -- what an accepted call has
   module _ (a : Accepted ≡ checks h) where
@@ -111,7 +112,7 @@ module _ (h : Handed) where
     }
 
     pub decoded : {r : Checked} {out : List ℕ} → (r ≡ checkShotsOf (graphIn (h .graph)) (h .rows) (below (h .shots))) × (out ≡ rowsOf (graphIn (h .graph)) (h .rows) (below (h .shots)) (h .out)) → Decodes h r out
-    decoded k = record { answers = rw (sym a) (k .0); rows = rw (sym a) (k .1) }
+    decoded k = record { sheet = rw (sym a) (ap checkedRow (k .0)); answers = rw (sym a) (k .0); rows = rw (sym a) (k .1) }
 
 -- ---- tables of another content and the same lengths
 

@@ -7,6 +7,7 @@ use lib.ListN.{length}
 use lib.Dec.{leb}
 use Rattle.lists.specs.Lists.{below}
 use Rattle.bits.specs.Rows.{words}
+use Rattle.codes.specs.Codes.{checkedRow}
 use Rattle.codes.specs.declared.Checked.{Checked}
 use Rattle.codes.specs.declared.Checked.the-variants.{Accepted, Refused}
 use Rattle.codes.specs.Order.{andThen}
@@ -52,5 +53,6 @@ outAfter Accepted was done = done
 
 -- all that the call promises. What the list and the scratch slices hold after it is free.
 pub record Decodes (h : Handed) (r : Checked) (out : List ℕ) : Type 0 where
+  pub sheet : checkedRow r ≡ checkedRow (outcome h)
   pub answers : r ≡ outcome h
   pub rows : out ≡ outAfter (checks h) (h .out) (rowsOf (graphIn (h .graph)) (h .rows) (below (h .shots)) (h .out))

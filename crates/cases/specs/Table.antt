@@ -8,9 +8,16 @@ use lib.Ieee as Ieee
 use lib.Ieee.{Float, binary64, fin}
 use Rattle.codes.specs.declared.Refusal.the-variants as refusal
 use Rattle.steps.specs.Graph.{boundary}
+use Rattle.steps.specs.Growth.{count, start}
 use Rattle.steps.specs.Cases.{quarter-weight}
 use Rattle.dem.specs.Tables.{Tables}
 use Rattle.dem.specs.Positions.{tables}
+use Rattle.dem.specs.Cases.{three-eighths}
+use Rattle.decompose.specs.declared.Counts.{Counts}
+use Rattle.decomposed.specs.declared.Scratch.{Scratch}
+use Rattle.decomposed.specs.declared.Decomposed.{Decomposed}
+use Rattle.decomposed.specs.declared.Decomposed.the-variants as decomposed
+use Rattle.decomposed.specs.Call.{outcome as decomposition, Decomposes}
 use Rattle.graph.specs.Cases.{quarter, eighth}
 use Rattle.graph.specs.Tables.{Slices, slices}
 use Rattle.graph.specs.Outcome.{outcome, Compiles}
@@ -23,7 +30,7 @@ use Rattle.marking.specs.declared.Marking.the-variants as marking
 use Rattle.marker.specs.Answer.{Marks}
 use Rattle.decoder.specs.declared.Answer.{Answer}
 use Rattle.decoder.specs.declared.Answer.the-variants as answer
-use Rattle.decoder.specs.Answer.{Handed, handed, Decodes}
+use Rattle.decoder.specs.Answer.{Handed, handed, graphOfCall, litOfCall, Decodes}
 
 -- ---- numbers
 
@@ -56,6 +63,10 @@ shotOf l word = handed l (word ∷ []) 2 (0 ∷ 9 ∷ []) (7 ∷ 8 ∷ 9 ∷ [])
 abbrev pub Gives : Handed → Answer → List ℕ → List ℕ → Type 0
 Gives h r list row = (r′ : Answer) (list′ row′ : List ℕ) → Decodes h r′ list′ row′ → (r′ ≡ r) × (list′ ≡ list) × (row′ ≡ row)
 
+-- how often edge e is counted in the first round of that call, as the steps tell on what it is handed
+abbrev pub counted : Handed → ℕ → ℕ
+counted h e = count (graphOfCall h) (litOfCall h) (start (graphOfCall h) (litOfCall h)) e
+
 pub record Decoder : Type 0 where
   -- "no lit detector, empty list"
   pub dark : Gives (shotOf both-edges 0) (answer.Decoded 0 0) (7 ∷ 8 ∷ 9 ∷ []) (0 ∷ 9 ∷ [])
@@ -63,8 +74,9 @@ pub record Decoder : Type 0 where
   pub d0 : Gives (shotOf both-edges 1) (answer.Decoded 1 1) (0 ∷ 8 ∷ 9 ∷ []) (1 ∷ 9 ∷ [])
   -- "D1, as shown"
   pub d1 : Gives (shotOf both-edges 2) (answer.Decoded 2 2) (1 ∷ 0 ∷ 9 ∷ []) (1 ∷ 9 ∷ [])
-  -- "both, list 1, row 0"
+  -- "both, list 1, row 0, edge 1 counted twice"
   pub d01 : Gives (shotOf both-edges 3) (answer.Decoded 1 1) (1 ∷ 8 ∷ 9 ∷ []) (0 ∷ 9 ∷ [])
+  pub d01-twice : counted (shotOf both-edges 3) 1 ≡ 2
   -- "With the pair edge alone: D1 is Stuck naming 0; both pass"
   pub pair-d1 : Gives (shotOf pair-only 2) (answer.Stuck 1 0) (7 ∷ 8 ∷ 9 ∷ []) (0 ∷ 9 ∷ [])
   pub pair-d01 : Gives (shotOf pair-only 3) (answer.Decoded 1 1) (0 ∷ 8 ∷ 9 ∷ []) (0 ∷ 9 ∷ [])
@@ -73,9 +85,13 @@ pub record Decoder : Type 0 where
 
 -- ---- the marker
 
--- whatever keeps the marker's contract on D1's shot and this list answers m and leaves this row, where 5 and 9 stood
+-- whatever keeps the marker's contract on this graph, shot and list answers m and leaves this row, where 5 and 9 stood
+abbrev pub MarkedOn : Lent → ℕ → List ℕ → Marking → List ℕ → Type 0
+MarkedOn l word list m row = (m′ : Marking) (row′ : List ℕ) → Marks l (word ∷ []) 2 list (5 ∷ 9 ∷ []) (3 ∷ []) (3 ∷ []) m′ row′ → (m′ ≡ m) × (row′ ≡ row)
+
+-- the same on document 01's model and D1's shot
 abbrev pub Marked : List ℕ → Marking → List ℕ → Type 0
-Marked list m row = (m′ : Marking) (row′ : List ℕ) → Marks both-edges (2 ∷ []) 2 list (5 ∷ 9 ∷ []) (3 ∷ []) (3 ∷ []) m′ row′ → (m′ ≡ m) × (row′ ≡ row)
+Marked list m row = MarkedOn both-edges 2 list m row
 
 pub record Marker : Type 0 where
   -- the decoder's list passes, with its row
@@ -86,6 +102,8 @@ pub record Marker : Type 0 where
   -- 13: an unknown and a repeated edge
   pub unknown : Marked (1 ∷ 0 ∷ 2 ∷ []) (marking.Refused refusal.Edge) (5 ∷ 9 ∷ [])
   pub repeated : Marked (1 ∷ 0 ∷ 0 ∷ 0 ∷ []) (marking.Refused refusal.Edge) (5 ∷ 9 ∷ [])
+  -- "With the pair edge alone: .. both pass": the decoder's list, with its row
+  pub pair-d01 : MarkedOn pair-only 3 (0 ∷ []) marking.Pass (0 ∷ 9 ∷ [])
 
 -- ---- compiling
 
@@ -113,9 +131,33 @@ pub record Compiling : Type 0 where
   -- "p = 0.5 weighs 0", and "minus zero skipped"
   pub half : CompilesTo (two (fin true 0 (pos 0)) half 1 2 1 0 (0 ∷ 0 ∷ 0 ∷ 1 ∷ [])) 1 (0 ∷ 8 ∷ []) (1 ∷ 8 ∷ []) (fin false 0 (pos 0) ∷ one ∷ []) (0 ∷ 8 ∷ [])
 
+-- ---- decomposing
+
+-- two mechanisms at 0.25 over D = 3 and O = 0: D0; and D0, D1 and D2, with the components D0, and D1 and D2
+abbrev pub suggested : Tables
+suggested = tables (quarter ∷ quarter ∷ []) (1 ∷ 3 ∷ []) (0 ∷ 0 ∷ []) (0 ∷ 2 ∷ []) (1 ∷ 2 ∷ []) (0 ∷ 0 ∷ []) (0 ∷ 0 ∷ 1 ∷ 2 ∷ 0 ∷ 1 ∷ 2 ∷ [])
+
+-- what the output tables held before: places for a mechanism and for an entry more than the model given
+abbrev pub lent : Tables
+lent = tables (one ∷ one ∷ one ∷ []) (7 ∷ 8 ∷ 9 ∷ []) (7 ∷ 8 ∷ 9 ∷ []) (7 ∷ 8 ∷ 9 ∷ []) (7 ∷ 8 ∷ []) (7 ∷ 8 ∷ []) (7 ∷ 8 ∷ 9 ∷ 10 ∷ 11 ∷ 12 ∷ 13 ∷ 14 ∷ [])
+
+-- scratch slices as long as it needs
+abbrev pub scratch : Scratch
+scratch = record { starts = 34; before = 34; «last_of» = 3; «first_of» = 3; «next_of» = 2; numbers = 2; masks = 2; words0 = 2; words1 = 2; earlier = 2 }
+
+-- whatever keeps the contract of decomposing that model answers r and leaves these tables
+abbrev pub DecomposesTo : Decomposed → Tables → Type 0
+DecomposesTo r left = (r′ : Decomposed) (left′ : Tables) → Decomposes (decomposition 3 0 2 suggested lent scratch) r′ lent left′ → (r′ ≡ r) × (left′ ≡ left)
+
+pub record Decomposing : Type 0 where
+  -- "0.25 added to 0.25 is 0.375": of D0, and 0.25 of a new mechanism of D1 and D2; every word past the two is as it was
+  pub added : DecomposesTo (decomposed.Into (record { mechanisms = 2; components = 0; entries = 3 }))
+      (tables (three-eighths ∷ quarter ∷ one ∷ []) (1 ∷ 2 ∷ 9 ∷ []) (0 ∷ 0 ∷ 9 ∷ []) (0 ∷ 0 ∷ 9 ∷ []) (7 ∷ 8 ∷ []) (7 ∷ 8 ∷ []) (0 ∷ 1 ∷ 2 ∷ 10 ∷ 11 ∷ 12 ∷ 13 ∷ 14 ∷ []))
+
 -- ---- the table
 
 pub record Table : Type 0 where
+  pub decomposing : Decomposing
   pub compiling : Compiling
   pub decoder : Decoder
   pub marker : Marker

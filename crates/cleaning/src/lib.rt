@@ -1,12 +1,21 @@
 // What a shot has changed, put to rest at the cost of the detectors seen and their edges.
 ghost use Prim.Native.Nat.{ℕ, _+_, _<_, _≤_};
 ghost use mathlib.Core.Path.{_≡_};
-ghost use lib.ListN.{length, getD, take};
+ghost use lib.ListN.{length, getD, take, set};
 ghost use lib.Seq.{slice};
+ghost use lib.Ieee.{binary64, ofBits};
 ghost use Rattle.growth_state.specs.Rep.{Used};
 ghost use Rattle.cleaning.specs.Clean.{Clean, Stretch, Cleared, Cleaning};
 
 const BOUNDARY: u32 = 4294967295;
+
+// An edge that has not grown. A function of its own, so that what it stores is a fact of its own.
+fn shrink(growth: &mut [f64], e: usize)
+    requires { ⌜ e < length (now growth) ⌝ }
+    ensures { λ _. ⌜ now (growth .exit) ≡ set (now (growth .entry)) e (ofBits binary64 0) ⌝ }
+{
+    growth[e] = 0.0;
+}
 
 // The edges listed from start to end have neither grown nor saturated.
 pub fn clean_edges(adj_edge: &[u32], start: usize, end: usize, growth: &mut [f64], sat: &mut [bool])
@@ -17,7 +26,7 @@ pub fn clean_edges(adj_edge: &[u32], start: usize, end: usize, growth: &mut [f64
     while k < end {
         let e = adj_edge[k] as usize;
         k += 1;
-        growth[e] = 0.0;
+        shrink(growth, e);
         sat[e] = false;
     }
 }

@@ -20,7 +20,7 @@ use Rattle.shot_answer.specs.declared.Shot.{Shot}
 use Rattle.shot_answer.specs.Shots.{shotOf}
 use Rattle.decoder.specs.declared.Answer.{Answer}
 use Rattle.decoder.specs.declared.Answer.the-variants as answer
-use Rattle.decoder.specs.Answer.{Handed, ownLong, checks, graphOfCall, litOfCall, decoded, answerOf, listAfter, rowAfter, Decodes}
+use Rattle.decoder.specs.Answer.{Handed, ownLong, checks, graphOfCall, litOfCall, decoded, sheetOf, callRow, answerOf, listAfter, rowAfter, Decodes}
 use Rattle.decoder.specs.Parts.{answerTo, adjLong, cleanLong, restLong}
 use Rattle.decoder.proofs.Laws.{own, adj-long}
 
@@ -62,9 +62,17 @@ pub not-accepted : {X : Type 0} (r : Refusal) → Refused r ≡ Accepted → X
 unfolding refuses
 not-accepted {X} r h = clash {C = X} {b = refuses (Refused r)} refl (ap refuses h)
 
+-- the answer on the sheet
+on-sheet : (c : Checked) (x : Decoded) → sheetOf (answerOf c x) ≡ callRow c x
+unfolding callRow answerOf
+on-sheet (Refused r) x = refl
+on-sheet Accepted (impossible n d) = refl
+on-sheet Accepted (corrected n list) = refl
+
 pub refused : (h : Handed) (r : Refusal) → checks h ≡ Refused r → Decodes h (answer.Refused r) (h .list) (h .row)
-unfolding answerOf listAfter rowAfter
+unfolding callRow answerOf listAfter rowAfter
 refused h r e = record {
+  sheet = rw e refl;
   answers = rw e refl;
   lists = rw e refl;
   rows = rw e refl;
@@ -81,8 +89,10 @@ pub decodes : (h : Handed) → checks h ≡ Accepted → {shot : Shot} {r : Answ
 unfolding listAfter rowAfter graphOf
 decodes h a p q s t =
     let x = decoded h in
+    let e : _ ≡ answerOf (checks h) x = p ∙ ap answerTo q ∙ answered x ∙ ap (λ (c : Checked). answerOf c x) (sym a) in
     record {
-      answers = p ∙ ap answerTo q ∙ answered x ∙ ap (λ (c : Checked). answerOf c x) (sym a);
+      sheet = ap sheetOf e ∙ on-sheet (checks h) x;
+      answers = e;
       lists = s ∙ ap (λ (c : Checked). listAfter c (h .list) x) (sym a);
       rows = t ∙ ap (λ (c : Checked). rowAfter c (graphOfCall h) (h .row) x) (sym a);
       found = λ _. found (graphOfCall h) (accepts h a .graph) (litOfCall h) (bits-length (h .graph .detectors) (h .shot));

@@ -1,11 +1,12 @@
 -- What the call answers and leaves: document 01, "Growth and clusters", "Correction list and marker" and "Codes on the marking sheet".
 use Prim.Native.Nat.{ℕ}
 use mathlib.Core.Path.{_≡_}
-use mathlib.Core.List.{List}
+use mathlib.Core.List.{List, [], _∷_}
 use mathlib.Core.Bool.{Bool, _&&_}
 use lib.ListN.{length}
 use lib.Dec.{leb}
 use Rattle.bits.specs.Rows.{words}
+use Rattle.codes.specs.Codes.{Sheet, refusalRow, successRow}
 use Rattle.codes.specs.declared.Checked.{Checked}
 use Rattle.codes.specs.declared.Checked.the-variants.{Accepted, Refused}
 use Rattle.steps.specs.Graph.{Graph}
@@ -54,6 +55,30 @@ module _ (h : Handed) where
   abbrev pub decoded : Decoded
   decoded = decode graphOfCall litOfCall
 
+-- ---- the answer on the sheet
+
+-- "11, shot, detector": a shot by itself is shot 0. The rounds finished stand behind them
+abbrev pub stuckRow : ℕ → ℕ → Sheet
+stuckRow rounds detector = record { code = 11; values = 0 ∷ detector ∷ rounds ∷ [] }
+
+-- the rounds finished and the list's length
+abbrev pub decodedRow : ℕ → ℕ → Sheet
+decodedRow rounds length = successRow (rounds ∷ length ∷ [])
+
+-- the sheet's number and values for each case of the answer
+abbrev pub sheetOf : Answer → Sheet
+sheetOf (answer.Decoded rounds length) = decodedRow rounds length
+sheetOf (answer.Stuck rounds detector) = stuckRow rounds detector
+sheetOf (answer.Refused r) = refusalRow r
+
+-- and for the call: the first refusal of the check, else what the steps come to
+unfoldable pub callRow : Checked → Decoded → Sheet
+callRow (Refused r) x = refusalRow r
+callRow Accepted (impossible n d) = stuckRow n d
+callRow Accepted (corrected n list) = decodedRow n (length list)
+
+-- ---- the answer by its cases, and what is left
+
 -- a refusal of the check, else what the steps come to: the rounds finished, with the list's length or the detector named
 unfoldable pub answerOf : Checked → Decoded → Answer
 answerOf (Refused r) x = answer.Refused r
@@ -74,6 +99,7 @@ rowAfter Accepted g was x = rowLeft g was x
 
 -- all that the call promises: its answer, every word of the list and of the row, and demand 3 of the graph and the shot that it was handed. What the scratch slices hold after it is free.
 pub record Decodes (h : Handed) (r : Answer) (list row : List ℕ) : Type 0 where
+  pub sheet : sheetOf r ≡ callRow (checks h) (decoded h)
   pub answers : r ≡ answerOf (checks h) (decoded h)
   pub lists : list ≡ listAfter (checks h) (h .list) (decoded h)
   pub rows : row ≡ rowAfter (checks h) (graphOfCall h) (h .row) (decoded h)

@@ -1,10 +1,11 @@
 -- What the call answers and leaves: document 01, "Decomposed model" and "Codes on the marking sheet".
 use Prim.Native.Nat.{ℕ, _*_, min}
 use mathlib.Core.Path.{_≡_}
-use mathlib.Core.List.{List}
+use mathlib.Core.List.{List, [], _∷_}
 use mathlib.Core.Bool.{Bool, not, _&&_}
 use lib.ListN.{length}
 use lib.Dec.{leb}
+use Rattle.codes.specs.Codes.{Sheet, refusalRow, successRow}
 use Rattle.codes.specs.declared.Refusal.the-variants.{Short}
 use Rattle.codes.specs.declared.Checked.{Checked}
 use Rattle.codes.specs.declared.Checked.the-variants.{Accepted, Refused}
@@ -55,6 +56,16 @@ outcome D O n t was s = outcomeOf (checked D O n t was s) (decompose (roomOf was
 abbrev pub countsOf : List ErrorMechanism → Counts
 countsOf ms = record { mechanisms = length ms; components = length (tablesOf ms .component-detectors); entries = entriesOf ms }
 
+-- the sheet's number and values for each case of the answer: mechanisms, components, entries
+abbrev pub sheetOf : Decomposed → Sheet
+sheetOf (decomposed.Into n) = successRow (n .mechanisms ∷ n .components ∷ n .entries ∷ [])
+sheetOf (decomposed.Refused r) = refusalRow r
+
+-- and for what the call comes to
+abbrev pub callRow : Split → Sheet
+callRow (into ms) = successRow (length ms ∷ length (tablesOf ms .component-detectors) ∷ entriesOf ms ∷ [])
+callRow (refused r) = refusalRow r
+
 -- the answer: how much the tables hold, or the refusal
 abbrev pub answerOf : Split → Decomposed
 answerOf (into ms) = decomposed.Into (countsOf ms)
@@ -67,5 +78,6 @@ tablesLeft (refused r) was = tablesZero was
 
 -- the answer and every output table; the scratch slices may hold anything
 pub record Decomposes (x : Split) (r : Decomposed) (was after : Tables) : Type 0 where
+  pub sheet : sheetOf r ≡ callRow x
   pub answer : r ≡ answerOf x
   pub tables : after ≡ tablesLeft x was

@@ -117,6 +117,7 @@ module _ (h : Handed) (r : Answer) (list row : List ℕ) (p : Decodes h r list r
           past-list = drop-append-seam es (drop (length es) (h .list));
           past-row = past-row;
           rounds = found .rounds n es e .0;
+          ended = found .rounds n es e .1;
           marked = rw t (λ was marks wrong m left long k.
               let j = marker-stated (h .graph) (h .shot) (h .width) es was marks wrong m left k (mark-checked was marks wrong long) in
               let passed = j .exactly .1 (whole .fits, whole .explains) in
@@ -137,6 +138,7 @@ module _ (h : Handed) (r : Answer) (list row : List ℕ) (p : Decodes h r list r
         list-untouched = list-is (impossible n d) x;
         row-untouched = row-left ∙ found .untouched (n, d, x) (h .row);
         rounds = found .rounds-stuck n d x .0;
+        ended = found .rounds-stuck n d x .1;
         named = found .named n d x;
       }
 

@@ -1,3 +1,4 @@
 pub mod Marker
 pub mod Decoder
 pub mod Verified
+pub mod Fixed

@@ -72,6 +72,7 @@ module _ (h : Handed) (n k : ℕ) (list row : List ℕ) (p : Decodes h (answer.D
     verified-decoded = record {
       answer = answer.Decoded n k;
       decodes = p;
+      marks = λ n′ k′ e. let q : k ≡ k′ = cc in subst (λ (j : ℕ). Marks (h .graph) (h .shot) (h .width) (take j list) (replicate 2 0) (replicate 256 0) (replicate 64 0) (v .marking) (v .row)) q t;
       passes = λ n′ k′ e. passed;
       same-row = λ n′ k′ e zero. hands-over h (answer.Decoded n k) list row p ok zero n k refl .marked (replicate 2 0) (replicate 256 0) (replicate 64 0) (v .marking) (v .row) roomy t .1;
       past-row = λ n′ k′ e. judged .past-row;
@@ -113,6 +114,7 @@ module _ (h : Handed) (list row : List ℕ) where
   verified (answer.Stuck n d) v p f = record {
     answer = answer.Stuck n d;
     decodes = p;
+    marks = f .decoded;
     passes = λ n′ k e. clash refl cc;
     same-row = λ n′ k e zero. clash refl cc;
     past-row = λ n′ k e. clash refl cc;
@@ -122,6 +124,7 @@ module _ (h : Handed) (list row : List ℕ) where
   verified (answer.Refused r) v p f = record {
     answer = answer.Refused r;
     decodes = p;
+    marks = f .decoded;
     passes = λ n k e. clash refl cc;
     same-row = λ n k e zero. clash refl cc;
     past-row = λ n k e. clash refl cc;

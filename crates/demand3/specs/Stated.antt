@@ -12,7 +12,7 @@ use Rattle.codes.specs.declared.Refusal.the-variants as refusal
 use Rattle.steps.specs.Graph.{Graph, flipped}
 use Rattle.steps.specs.Rows.{rowOf}
 use Rattle.steps.specs.Marker.{fit}
-use Rattle.steps.specs.Found.{Known, Distinct, Explains, Blank, Xored, Rounds, Named}
+use Rattle.steps.specs.Found.{Known, Distinct, Explains, Blank, Xored, Rounds, NoneActive, Halted, Named}
 use Rattle.steps.specs.Call.{litOf}
 use Rattle.calls.specs.Call.{Lent, graphIn}
 use Rattle.marking.specs.declared.Marking.{Marking}
@@ -51,8 +51,10 @@ module _ (h : Handed) where
     -- what lies past the list and past the row is untouched
     pub past-list : drop k list ≡ drop k (h .list)
     pub past-row : drop (words O) row ≡ drop (words O) (h .row)
-    -- "rounds finished never exceed the edges, each saturating a new one"
+    -- "rounds finished never exceed the edges, each saturating a new one": so many were finished,
     pub rounds : Rounds (graphOfCall h) (litOfCall h) n
+    -- and no more: no cluster is active after them
+    pub ended : NoneActive (graphOfCall h) (litOfCall h) n
     -- "the marker passes it and writes the same row", whatever slices it is lent
     pub marked : (was marks wrong : List ℕ) (m : Marking) (left : List ℕ)
         → markerLong (h .graph .detectors) O (h .graph .edges) (length was) (length marks) (length wrong) ≡ true
@@ -63,6 +65,8 @@ module _ (h : Handed) where
     pub list-untouched : list ≡ h .list
     pub row-untouched : row ≡ h .row
     pub rounds : Rounds (graphOfCall h) (litOfCall h) n
+    -- no more were finished: the first stuck cluster is that of d
+    pub ended : Halted (graphOfCall h) (litOfCall h) n d
     -- the lowest detector of a cluster that nothing can help
     pub named : Named (graphOfCall h) (litOfCall h) n d
 
@@ -93,6 +97,17 @@ module _ (l : Lent) (shot list : List ℕ) where
     pub untouched : (m ≡ marking.Pass → ⊥) → left ≡ was
 
 -- ---- the demand
+
+-- the rounds that an answer tells
+abbrev pub roundsTold : Answer → ℕ
+roundsTold (answer.Decoded n k) = n
+roundsTold (answer.Stuck n d) = n
+roundsTold (answer.Refused r) = 0
+
+-- the count is one number: no two answers of which the demand holds tell different ones
+abbrev pub RoundsFixed : Type 0
+RoundsFixed =
+    (h : Handed) (r r′ : Answer) (list row list′ row′ : List ℕ) → Stated h r list row → Stated h r′ list′ row′ → roundsTold r ≡ roundsTold r′
 
 -- of every call that is not refused, whose row began as zero
 abbrev pub DecoderStated : Type 0

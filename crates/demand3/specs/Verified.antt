@@ -41,6 +41,8 @@ module _ (h : Handed) where
     -- the decoder keeps its promise
     pub answer : Answer
     pub decodes : Decodes h answer list row
+    -- the marker keeps its own, of the list that was handed over: its row and its scratch are as long as any graph needs
+    pub marks : (n k : ℕ) → answer ≡ Decoded n k → Marks (h .graph) (h .shot) (h .width) (take k list) (replicate 2 0) (replicate 256 0) (replicate 64 0) (v .marking) (v .row)
     -- "the marker passes it"
     pub passes : (n k : ℕ) → answer ≡ Decoded n k → v .marking ≡ marking.Pass
     -- "and writes the same row"

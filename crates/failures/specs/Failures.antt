@@ -1,14 +1,15 @@
 -- Failures and their rate: document 01, "Rate" and "Codes on the marking sheet".
 use Prim.Native.Nat.{ℕ, _+_, _*_, _≤_, _<_}
 use mathlib.Core.Path.{_≡_}
-use mathlib.Core.List.{List}
+use mathlib.Core.List.{List, [], _∷_}
 use mathlib.Core.Bool.{Bool, true, cond, not, xor, _&&_, _||_}
 use lib.Dec.{eqb}
 use lib.IntN.{pos}
 use lib.ListN.{length}
-use lib.Ieee.{Float, binary64, div, ofInt}
+use lib.Ieee.{Float, binary64, div, ofInt, toBits}
 use Rattle.lists.specs.Lists.{below, filter, any}
 use Rattle.bits.specs.Rows.{words, bit, isClear}
+use Rattle.codes.specs.Codes.{Sheet, refusalRow, successRow}
 use Rattle.codes.specs.declared.Refusal.the-variants.{Shape}
 use Rattle.codes.specs.declared.Checked.{Checked}
 use Rattle.codes.specs.declared.Checked.the-variants.{Accepted, Refused}
@@ -36,6 +37,16 @@ rateOf o failures shots = cond (eqb shots 0 || eqb o 0) zero64 (div binary64 (of
 -- 12, where the true observables are not as many shots of O observables each
 unfoldable pub shapeOf : ℕ → ℕ → ℕ → ℕ → Checked
 shapeOf o shots true-shots true-width = refuseIf (not (eqb true-shots shots && eqb true-width o)) Shape
+
+-- the sheet's number and values for each case of the answer: the rate by its bits
+abbrev pub sheetOf : ErrorRate → Sheet
+sheetOf (answer.Rate rate) = successRow (toBits binary64 rate ∷ [])
+sheetOf (answer.Refused r) = refusalRow r
+
+-- and for what the call comes to
+abbrev pub callRow : Checked → Float → Sheet
+callRow (Refused r) rate = refusalRow r
+callRow Accepted rate = successRow (toBits binary64 rate ∷ [])
 
 -- the rate where nothing refuses
 abbrev pub answerOf : Checked → Float → ErrorRate

@@ -41,8 +41,8 @@ module _ (g : Graph) (lit : List Bool) where
       case-of (ltb m n)
       (λ t. absurd (not-fewer m n a b (ltb-true m n t)))
       (λ f. case-of (ltb n m)
-        (λ t. absurd (not-fewer n m b a (ltb-true n m t)))
-        (λ h. omega (arith, ltb-false m n f, ltb-false n m h)))
+      (λ t. absurd (not-fewer n m b a (ltb-true n m t)))
+      (λ h. omega (arith, ltb-false m n f, ltb-false n m h)))
 
   pub one-count : OneCount g lit
   one-count = record { none-active = by-none; halted = by-halt; same = one-number }

@@ -1,7 +1,7 @@
 -- The answer of a call, and what it leaves.
 use Prim.Native.Nat.{ℕ}
 use native.Mathlib.Omega.{arith}
-use mathlib.Core.Path.{_≡_, sym, ap, _∙_}
+use mathlib.Core.Path.{_≡_, refl, sym, ap, _∙_}
 use mathlib.Core.List.{List}
 use mathlib.Core.Bool.{Bool, true, false, not, _&&_}
 use lib.IntN.{pos}
@@ -19,7 +19,7 @@ use Rattle.graph.specs.declared.Compiled.{Compiled}
 use Rattle.graph.specs.declared.Compiled.the-variants as compiled
 use Rattle.graph.specs.Compile.{Edges, into, refused, compile, graphBy}
 use Rattle.graph.specs.Tables.{Slices, filled}
-use Rattle.graph.specs.Outcome.{answerOf, tableLeft, slicesLong, checkSlices, outcome, Compiles, Joined}
+use Rattle.graph.specs.Outcome.{sheetOf, callRow, answerOf, tableLeft, slicesLong, checkSlices, outcome, Compiles, Joined}
 
 -- ---- the check
 
@@ -45,17 +45,24 @@ module _ (d o m : ℕ) (t : Tables) (out : Slices) (first next : List ℕ) where
 
 -- ---- the call
 
+-- the answer on the sheet
+on-sheet : (e : Edges) → sheetOf (answerOf e) ≡ callRow e
+unfolding callRow answerOf
+on-sheet (into es) = refl
+on-sheet (refused r) = refl
+
 module _ (d o : ℕ) (entry exit : Slices) where
   pub zero-left : (x : Refusal) (r : Compiled) (e : Edges) → e ≡ refused x → r ≡ compiled.Refused x → exit .edge-u ≡ replicate (length (entry .edge-u)) 0
       → exit .edge-v ≡ replicate (length (entry .edge-v)) 0 → exit .edge-weight ≡ replicate (length (entry .edge-weight)) (fin false 0 (pos 0))
       → exit .edge-obs ≡ replicate (length (entry .edge-obs)) 0 → Compiles d o e r entry exit
   unfolding answerOf tableLeft
-  zero-left x r e h a u v w b = rw h (record { answer = a; ends = u; others = v; weights = w; rows = b })
+  zero-left x r e h a u v w b = rw h (record { sheet = ap sheetOf a ∙ on-sheet (refused x); answer = a; ends = u; others = v; weights = w; rows = b })
 
   pub edges-left : (k : ℕ) (r : Compiled) (e : Edges) → r ≡ compiled.Edges k → Joined o e r entry exit → Compiles d o e r entry exit
   unfolding answerOf tableLeft filled graphBy
   edges-left k r (refused x) h j = let z : _≡_ {A = ℕ} 0 1 = cc in absurd (omega arith)
   edges-left k r (into es) h (a, b) = record {
+    sheet = ap sheetOf a ∙ on-sheet (into es);
     answer = a;
     ends = ap (λ (s : Slices). s .edge-u) b;
     others = ap (λ (s : Slices). s .edge-v) b;

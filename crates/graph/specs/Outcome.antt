@@ -1,12 +1,13 @@
 -- What a call of `from_model` comes to: document 01, "Codes on the marking sheet".
 use Prim.Native.Nat.{ℕ}
 use mathlib.Core.Path.{_≡_}
-use mathlib.Core.List.{List}
+use mathlib.Core.List.{List, [], _∷_}
 use mathlib.Core.Bool.{Bool, false, not, _&&_}
 use lib.Dec.{leb}
 use lib.IntN.{pos}
 use lib.Ieee.{fin}
 use lib.ListN.{length, replicate}
+use Rattle.codes.specs.Codes.{Sheet, refusalRow, successRow}
 use Rattle.codes.specs.declared.Refusal.the-variants.{Short}
 use Rattle.codes.specs.declared.Checked.{Checked}
 use Rattle.codes.specs.declared.Checked.the-variants.{Accepted, Refused}
@@ -21,6 +22,16 @@ use Rattle.graph.specs.Tables.{Slices, flat, filled}
 use Rattle.graph.specs.Chains.{Chained}
 
 -- ---- the answer, and what is left
+
+-- the sheet's number and values for each case of the answer: how many edges
+abbrev pub sheetOf : Compiled → Sheet
+sheetOf (compiled.Edges n) = successRow (n ∷ [])
+sheetOf (compiled.Refused r) = refusalRow r
+
+-- and for what the call comes to
+unfoldable pub callRow : Edges → Sheet
+callRow (into es) = successRow (length es ∷ [])
+callRow (refused r) = refusalRow r
 
 -- edges: how many; or the refusal
 unfoldable pub answerOf : Edges → Compiled
@@ -57,6 +68,7 @@ outcome d o m t out first next = onlyThen (checkSlices d o m t out first next) (
 
 -- the answer and every table of the graph; the scratch slices may hold anything
 pub record Compiles (d o : ℕ) (e : Edges) (r : Compiled) (entry exit : Slices) : Type 0 where
+  pub sheet : sheetOf r ≡ callRow e
   pub answer : r ≡ answerOf e
   pub ends : exit .edge-u ≡ tableLeft 0 (λ es. graphBy d o es .edge-u) e (entry .edge-u)
   pub others : exit .edge-v ≡ tableLeft 0 (λ es. graphBy d o es .edge-v) e (entry .edge-v)

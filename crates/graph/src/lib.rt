@@ -423,7 +423,7 @@ fn check_slices(
 }
 
 // A refusal leaves every table zero, whole.
-fn refuse(
+pub fn refuse(
     r: Refusal,
     edge_u: &mut [u32],
     edge_v: &mut [u32],

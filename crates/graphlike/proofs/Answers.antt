@@ -26,7 +26,7 @@ use Rattle.decompose.specs.declared.Counts.{Counts}
 use Rattle.decomposed.specs.declared.Scratch.{Scratch}
 use Rattle.decomposed.specs.declared.Decomposed.{Decomposed}
 use Rattle.decomposed.specs.declared.Decomposed.the-variants as decomposed
-use Rattle.decomposed.specs.Call.{roomOf, scratchLong, long, checked, outcome, Decomposes}
+use Rattle.decomposed.specs.Call.{roomOf, scratchLong, long, checked, outcome, sheetOf, callRow, answerOf, Decomposes}
 use Rattle.decomposed.specs.Made.{Made}
 use Rattle.decomposed.specs.Started.{Decomposable}
 use Rattle.graphlike.specs.Lent.{scratchOf, Lent}
@@ -209,6 +209,11 @@ pub same-zero : (a b : Tables) → length (a .probability) ≡ length (b .probab
 unfolding tablesZero
 same-zero a b e1 e2 e3 e4 e5 e6 e7 = rw (e1, e2, e3, e4, e5, e6, e7)
 
+-- the answer on the sheet
+on-sheet : (x : Split) → sheetOf (answerOf x) ≡ callRow x
+on-sheet (into ms) = refl
+on-sheet (refused r) = refl
+
 module _ (ms : List ErrorMechanism) (was : Tables) (room : Size) (e : placesOf room ≡ roomOf was) where
   -- a refusal leaves zero
   pub refused-left : (z : Refusal) (made r : Decomposed) (mid after : Tables) → Made (decompose (placesOf room) ms) was made mid → made ≡ decomposed.Refused z → r ≡ decomposed.Refused z
@@ -217,7 +222,7 @@ module _ (ms : List ErrorMechanism) (was : Tables) (room : Size) (e : placesOf r
     where
       go : (x : Split) → Made x was made mid → Decomposes x r was after
       go (into b) (p, q) = let w : _≡_ {A = ℕ} 0 1 = cc in absurd (omega arith)
-      go (refused y) p = record { answer = v ∙ sym u ∙ p; tables = h }
+      go (refused y) p = record { sheet = ap sheetOf (v ∙ sym u ∙ p) ∙ on-sheet (refused y); answer = v ∙ sym u ∙ p; tables = h }
 
   -- a model leaves its tables
   pub model-left : (k : Counts) (made : Decomposed) (after : Tables) → Made (decompose (placesOf room) ms) was made after → made ≡ decomposed.Into k
@@ -225,14 +230,14 @@ module _ (ms : List ErrorMechanism) (was : Tables) (room : Size) (e : placesOf r
   model-left k made after m u = subst (λ (p : Places). Decomposes (decompose p ms) made was after) e (go (decompose (placesOf room) ms) m)
     where
       go : (x : Split) → Made x was made after → Decomposes x made was after
-      go (into b) (p, q) = record { answer = p; tables = q }
+      go (into b) (p, q) = record { sheet = ap sheetOf p ∙ on-sheet (into b); answer = p; tables = q }
       go (refused y) p = let w : _≡_ {A = ℕ} 0 1 = cc in absurd (omega arith)
 
 module _ (D O n : ℕ) (t was : Tables) (s : Scratch) where
   pub check-refused : (c : Checked) (z : Refusal) → c ≡ checked D O n t was s → c ≡ Refused z → (r : Decomposed) (after : Tables) → r ≡ decomposed.Refused z → after ≡ tablesZero was
       → Decomposes (outcome D O n t was s) r was after
   unfolding outcome
-  check-refused c z a b r after e h = rw (← a, b) (record { answer = e; tables = h })
+  check-refused c z a b r after e h = rw (← a, b) (record { sheet = ap sheetOf e ∙ on-sheet (refused z); answer = e; tables = h })
 
   pub check-accepted : (c : Checked) → c ≡ checked D O n t was s → c ≡ Accepted → (r : Decomposed) (after : Tables) → Decomposes (decompose (roomOf was) (modelOf n t)) r was after
       → Decomposes (outcome D O n t was s) r was after

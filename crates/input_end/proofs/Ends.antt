@@ -20,7 +20,8 @@ use Rattle.session.specs.declared.Numbers.{Numbers}
 use Rattle.session.specs.declared.Told.{Told}
 use Rattle.session.specs.declared.Told.the-variants as told
 use Rattle.session.specs.Output.{Session, Answer, goes, ends, goOn, answerLine, answers, endText}
-use Rattle.session.specs.Kept.{numbersOf, Sizes, Keeps, Kept, toldOf, textOf, Left, Tells, Answers}
+use Rattle.session.specs.Kept.{numbersOf, Sizes, Keeps, Kept, toldOf, textOf, columnsAfter, slicesAfter, KeptOn, Tells, Answers}
+use Rattle.session.specs.Memory.{Memory, memory, afterLine, goOnWith, memoryAfter}
 use Rattle.input_end.specs.Finish.{Finishes}
 
 abbrev endOf : Numbers → List ℕ
@@ -39,11 +40,19 @@ none-begun : (s : Session) (line : List ℕ) (used : ℕ) → used ≡ 0 → ans
 unfolding answers linesOf
 none-begun s line used e = ap (λ (k : ℕ). answers s (linesOf (take k line))) e
 
+none-left : (s : Session) (line : List ℕ) (used : ℕ) → used ≡ 0 → (m : Memory) → memoryAfter s m (linesOf (take used line)) ≡ m
+unfolding memoryAfter linesOf
+none-left s line used e m = ap (λ (k : ℕ). memoryAfter s m (linesOf (take k line))) e
+
 pub end-only : (n : Numbers) (c : Columns) (g : Slices) (line : List ℕ) (used r : ℕ) (was out : List ℕ) → used ≡ 0 → (r ≡ length (endOf n)) × (out ≡ written (endOf n) was)
-    → Finishes n c g (take used line) r was out
+    → Finishes n c g (take used line) r c g was out
 end-only n c g line used r was out z p =
     let same : (s : Session) → n ≡ numbersOf s → endOf n ≡ answers s (linesOf (take used line)) = λ s e. end-is s n e ∙ sym (none-begun s line used z) in
-    record { long = λ s e k y. p .0 ∙ ap length (same s e); text = λ s e k y. p .1 ∙ ap (λ (l : List ℕ). written l was) (same s e) }
+    record {
+      long = λ s e k y. p .0 ∙ ap length (same s e);
+      text = λ s e k y. p .1 ∙ ap (λ (l : List ℕ). written l was) (same s e);
+      tables = λ s e k y. sym (none-left s line used z (memory c g));
+    }
 
 -- ---- a last line
 
@@ -51,6 +60,15 @@ one-line : (s : Session) (line : List ℕ) → unended line ≡ true → 1 ≤ l
 unfolding answers
 one-line s [] u h = absurd (omega arith)
 one-line s (b ∷ line) u h = ap (answers s) (last b line u)
+
+last-left : (a : Answer) (m : Memory) → goOnWith a m (λ t n. n) ≡ m
+last-left (goes t text) m = refl
+last-left (ends r) m = refl
+
+one-left : (s : Session) (line : List ℕ) (m : Memory) → unended line ≡ true → 1 ≤ length line → memoryAfter s m (linesOf line) ≡ afterLine s line m
+unfolding memoryAfter
+one-left s [] m u h = absurd (omega arith)
+one-left s (b ∷ line) m u h = ap (memoryAfter s m) (last b line u) ∙ last-left (answerLine s (b ∷ line)) (afterLine s (b ∷ line) m)
 
 -- a text at the front of a part at the front
 front-put : (text out part : List ℕ) (k : ℕ) → k ≤ length out → part ≡ written text (midOf 0 (k - 0) out) → length part ≡ length (midOf 0 (k - 0) out) → putMid 0 (k - 0) out part ≡ written text out
@@ -85,8 +103,13 @@ module _ (n : Numbers) (c : Columns) (g : Slices) (line : List ℕ) (used : ℕ)
     tells : Tells (answerLine s (take used line)) r (midOf 0 (1066 - 0) out) part
     tells = subst (λ (l : List ℕ). Tells (answerLine s l) r (midOf 0 (1066 - 0) out) part) cut (a .answer s e k z)
 
-    keeps : Left (answerLine s (take used line)) c′ g′
-    keeps = subst (λ (l : List ℕ). Left (answerLine s l) c′ g′) cut (a .tables s e k z)
+    keeps : KeptOn (answerLine s (take used line)) c′ g′
+    keeps = subst (λ (l : List ℕ). KeptOn (answerLine s l) c′ g′) cut (a .keeps s e k z)
+
+    left : memory c′ g′ ≡ memoryAfter s (memory c g) (linesOf (take used line))
+    left =
+        ap₂ memory (subst (λ (l : List ℕ). c′ ≡ columnsAfter s l c) cut (a .columns s e k z)) (subst (λ (l : List ℕ). g′ ≡ slicesAfter s l g) cut (a .slices s e k z))
+        ∙ sym (one-left s (take used line) (memory c g) u (omega (arith, some, length-take-le used line fits)))
 
     whole : answers s (linesOf (take used line)) ≡ goOn (answerLine s (take used line)) (λ t. endText t)
     whole = one-line s (take used line) u (omega (arith, some, length-take-le used line fits))
@@ -124,22 +147,23 @@ module _ (n : Numbers) (c : Columns) (g : Slices) (line : List ℕ) (used : ℕ)
           two-lines text (endText t) out after tail w long first (p .1 ∙ ap (λ (l : List ℕ). written l (midOf w (length after - w) after)) end),
         )
 
-    failures-by : (m : Numbers) (w : ℕ) → r ≡ told.On m w → (x : Answer) → answerLine s (take used line) ≡ x → Left x c′ g′ → m .failures ≤ m .shots
+    failures-by : (m : Numbers) (w : ℕ) → r ≡ told.On m w → (x : Answer) → answerLine s (take used line) ≡ x → KeptOn x c′ g′ → m .failures ≤ m .shots
     failures-by m w q (ends y) o l = no-on (sym q ∙ tells .told ∙ ap toldOf o)
     failures-by m w q (goes t text) o l =
         let nums : told.On m w ≡ told.On (numbersOf t) (length text) = sym q ∙ tells .told ∙ ap toldOf o in
         let numbers : m ≡ numbersOf t = cc in
-        rw numbers (l .failures)
+        rw numbers (l t text refl .failures)
 
   pub after-long : length after ≡ length out
   after-long = same-len-mid 0 (1066 - 0) out part same
 
   -- ---- the contract
 
-  pub end-refused : (w : ℕ) → r ≡ told.Ended w → Finishes n c g (take used line) w out after
+  pub end-refused : (w : ℕ) → r ≡ told.Ended w → Finishes n c g (take used line) w c′ g′ out after
   end-refused w q = record {
     long = λ s e k z. ended-by s e k z w q (answerLine s (take used line)) refl .0 ∙ ap length (sym (whole s e k z));
     text = λ s e k z. ended-by s e k z w q (answerLine s (take used line)) refl .1 ∙ ap (λ (l : List ℕ). written l out) (sym (whole s e k z));
+    tables = left;
   }
 
   module _ (m : Numbers) (w : ℕ) (q : r ≡ told.On m w) where
@@ -164,8 +188,9 @@ module _ (n : Numbers) (c : Columns) (g : Slices) (line : List ℕ) (used : ℕ)
     end-long tail t = same-len-mid w (length after - w) after tail t ∙ after-long
 
     pub end-on : (v : ℕ) (tail : List ℕ) → (v ≡ length (endOf m)) × (tail ≡ written (endOf m) (midOf w (length after - w) after))
-        → Finishes n c g (take used line) (w + v) out (putMid w (length after - w) after tail)
+        → Finishes n c g (take used line) (w + v) c′ g′ out (putMid w (length after - w) after tail)
     end-on v tail p = record {
       long = λ s e k z. on-by s e k z m w v tail q p (answerLine s (take used line)) refl .0 ∙ ap length (sym (whole s e k z));
       text = λ s e k z. on-by s e k z m w v tail q p (answerLine s (take used line)) refl .1 ∙ ap (λ (l : List ℕ). written l out) (sym (whole s e k z));
+      tables = left;
     }

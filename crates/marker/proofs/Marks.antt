@@ -20,7 +20,7 @@ use Rattle.codes.specs.declared.Refusal.{Refusal}
 use Rattle.steps.specs.Graph.{Graph}
 use Rattle.steps.specs.Rows.{rowOf}
 use Rattle.steps.specs.Marker as steps
-use Rattle.steps.specs.Marker.{fit, mark}
+use Rattle.steps.specs.Marker.{Marked, fit, mark}
 use Rattle.steps.specs.Call.{graphOf, litOf, rowMarked}
 use Rattle.steps.specs.Found.{Found, bySteps}
 use Rattle.found.proofs.Found.{found}
@@ -32,14 +32,21 @@ use Rattle.calls.proofs.Laws.{call-accepted}
 use Rattle.marking.specs.declared.Marking.{Marking}
 use Rattle.marking.specs.declared.Marking.the-variants as marking
 use Rattle.marking.specs.Passes.{endsGraph, xorRows, Ready, InTable}
-use Rattle.marking.specs.Answer.{markingOf}
+use Rattle.marking.specs.Answer.{sheetOf, markingOf}
 use Rattle.marking.proofs.Xors.{length-xors, xors-row}
-use Rattle.marker.specs.Answer.{markerLong, checkMark, markIn, answerOf, rowAfter}
+use Rattle.marker.specs.Answer.{markerLong, checkMark, markIn, callRow, answerOf, rowAfter, Marks}
 use Rattle.marker.proofs.Verdicts.{same-marking, on-pass, off-pass}
 
 -- the first words of a slice, as many as the code lends
 pub part-long : (k n : ℕ) (slice : List ℕ) → k ≡ n → n ≤ length slice → length (midOf 0 (k - 0) slice) ≡ n
 part-long k n slice p h = mid-len 0 k slice (omega arith) ∙ omega arith
+
+-- the answer on the sheet
+on-sheet : (c : Checked) (m : Marked) → sheetOf (answerOf c m) ≡ callRow c m
+on-sheet checked.Accepted (steps.pass row) = refl
+on-sheet checked.Accepted (steps.differs d) = refl
+on-sheet checked.Accepted steps.unfit = refl
+on-sheet (checked.Refused r) m = refl
 
 module _ (l : Lent) (row marks wrong shot : List ℕ) (width : ℕ) where
   abbrev d : ℕ
@@ -139,3 +146,8 @@ module _ (l : Lent) (row marks wrong shot : List ℕ) (width : ℕ) where
             let same-row : new ≡ rowOf (graphIn l) list = h ∙ rw q (xors-row (graphIn l) (l .obs) list (λ e m. accepts .edge e (known e m) .row)) in
             let wide : w - 0 ≡ length (rowOf (graphIn l) list) = omega (arith, ap length same-row, ap length h, length-xors k (l .obs) list) in
             rw (ok, pass .1, same-row) (ap (λ (n : ℕ). rowOf (graphIn l) list ++ drop n row) wide)
+
+  -- ---- the call
+
+  pub marked : (list : List ℕ) {r : Marking} {left : List ℕ} → r ≡ answerOf check (markIn l shot list) → left ≡ rowAfter check row (markIn l shot list) → Marks l shot width list row marks wrong r left
+  marked list p q = record { sheet = ap sheetOf p ∙ on-sheet check (markIn l shot list); answers = p; rows = q; found = found-here }

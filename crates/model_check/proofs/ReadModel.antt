@@ -1,15 +1,17 @@
 -- The tables that lines were read into, as the tables of a model.
 use Prim.Native.Nat.{ℕ, zero, suc, _+_, _-_, _<_, _≤_, min}
 use native.Mathlib.Omega.{arith}
-use mathlib.Core.Path.{_≡_, refl, sym, ap, ap₂, _∙_}
+use mathlib.Core.Path.{_≡_, refl, sym, ap, ap₂, _∙_, subst}
 use mathlib.Core.List.{List, [], _∷_, _++_, map}
 use mathlib.Core.Bool.{Bool, true, false, not}
-use lib.ListN.{length, getD, take, drop, length-append, length-map, length-take, List·getD-append, List·getD-map}
+use lib.IntN.{pos}
+use lib.ListN.{length, getD, take, drop, replicate, length-append, length-map, length-take, List·getD-append, List·getD-map}
 use lib.Seq.{getD-take}
 use lib.Ieee as Ieee
-use lib.Ieee.{Float, binary64, nan}
-use borrow.Author.Tests.{le-ltb}
+use lib.Ieee.{Float, binary64, fin, nan}
+use borrow.Author.Tests.{le-ltb, lt-ltb}
 use Rattle.lists.proofs.Members.{getD-any}
+use Rattle.codes.specs.declared.Refusal.{Refusal}
 use Rattle.codes.specs.declared.Refusal.the-variants.{Short}
 use Rattle.codes.specs.declared.Checked.{Checked}
 use Rattle.codes.specs.declared.Checked.the-variants.{Accepted, Refused}
@@ -32,7 +34,7 @@ use Rattle.probabilities.proofs.Laws.{laws}
 use Rattle.reader.specs.Columns.{Columns, columns, byteOf, columnsAt, Holds}
 use Rattle.reader.proofs.Stored.{Long, read-long}
 use Rattle.reader.proofs.Written.{written-at}
-use Rattle.model_check.specs.ModelCheck.{modelTables, ModelChecked}
+use Rattle.model_check.specs.ModelCheck.{modelTables, fromBits, checkRead, ModelChecked}
 use Rattle.model_check.proofs.Sums.{total-bytes, total-le}
 
 begins-long : (xs col : List ℕ) → col ≡ written xs col → length xs ≤ length col
@@ -190,12 +192,12 @@ module _ (s : Input) (c : Columns) (e : c ≡ columnsAt s c) where
 -- ---- the contract
 
 module _ (n : State) (bs ds os cs cds cos es : List ℕ) (was : List Float) where
-  pub bits-short : length bs < n .mechanisms → ModelChecked n bs ds os cs cds cos es was (Refused Short) was
-  bits-short h = record {
-    short-bits = λ _. (refl, refl);
-    short = λ _. (refl, refl);
-    column = λ k _. absurd (omega (arith, h, k));
-    whole = λ k _. absurd (omega (arith, h, k));
+  pub bits-short : length bs < n .mechanisms → (r : Checked) (ps : List Float) → r ≡ Refused Short → ps ≡ replicate (length was) (fin false 0 (pos 0))
+      → ModelChecked n bs ds os cs cds cos es was r ps
+  unfolding checkRead
+  bits-short h r ps e q = record {
+    answers = λ ws ts. rw (lt-ltb (length bs) (n .mechanisms) h) e;
+    column = rw e q;
     answer = λ s ws ts k _. absurd (too-short s ws ts k);
     model = λ s ws ts k _ _. absurd (too-short s ws ts k);
   }
@@ -204,36 +206,55 @@ module _ (n : State) (bs ds os cs cds cos es : List ℕ) (was : List Float) wher
       too-short s ws ts k =
           omega (arith, h, ap (λ (m : State). m .mechanisms) (k .counts), bits-long s (columns bs ds os cs cds cos es ws ts) (k .tables))
 
-  pub column-short : length was < n .mechanisms → ModelChecked n bs ds os cs cds cos es was (Refused Short) was
-  column-short h = record {
-    short-bits = λ _. (refl, refl);
-    short = λ _. (refl, refl);
-    column = λ _ k. absurd (omega (arith, h, k));
-    whole = λ _ k. absurd (omega (arith, h, k));
+  pub column-short : n .mechanisms ≤ length bs → length was < n .mechanisms → (r : Checked) (ps : List Float) → r ≡ Refused Short
+      → ps ≡ replicate (length was) (fin false 0 (pos 0)) → ModelChecked n bs ds os cs cds cos es was r ps
+  unfolding checkRead
+  column-short hb h r ps e q = record {
+    answers = λ ws ts. rw (le-ltb (length bs) (n .mechanisms) hb, lt-ltb (length was) (n .mechanisms) h) e;
+    column = rw e q;
     answer = λ s ws ts _ k. absurd (omega (arith, h, k));
     model = λ s ws ts _ k _. absurd (omega (arith, h, k));
   }
 
-  pub checked : (r : Checked) (ps : List Float) → n .mechanisms ≤ length bs → n .mechanisms ≤ length was
-      → ps ≡ map probabilityOf (take (n .mechanisms) bs) ++ drop (n .mechanisms) was → r ≡ checkAll (n .detectors) (n .observables) (n .mechanisms) (tables ps ds os cs cds cos es)
-      → ModelChecked n bs ds os cs cds cos es was r ps
-  checked r ps hb hw q e = record {
-    short-bits = λ k. absurd (omega (arith, hb, k));
-    short = λ k. absurd (omega (arith, hw, k));
-    column = λ _ _. q;
-    whole = λ _ _. e;
-    answer = λ s ws ts k _. e ∙ by s ws ts k .0;
-    model = λ s ws ts k _ a. by s ws ts k .1 (sym e ∙ a);
-  }
-    where
-      by : (s : Input) (ws ts : List ℕ) → Holds s n (columns bs ds os cs cds cos es ws ts)
-          → (checkAll (n .detectors) (n .observables) (n .mechanisms) (tables ps ds os cs cds cos es) ≡ checkModel (n .detectors) (n .observables) 0 (modelRead (s .mechanisms)))
-          × (checkAll (n .detectors) (n .observables) (n .mechanisms) (tables ps ds os cs cds cos es) ≡ Accepted → modelOf (n .mechanisms) (tables ps ds os cs cds cos es) ≡ modelRead (s .mechanisms))
-      by s ws ts k =
-          let c = columns bs ds os cs cds cos es ws ts in
-          let m : n .mechanisms ≡ length (s .mechanisms) = ap (λ (m : State). m .mechanisms) (k .counts) in
-          let q′ = rw m at q in
-          let h = held-of n (k .within) in
-          let all = all-read s c (k .tables) ps (drop (length (s .mechanisms)) was) q′ (n .detectors) (n .observables) (h .detectors) (h .observables) (omega (arith, h .mechanisms, m)) in
-          let same = check-read s c (k .tables) ps (drop (length (s .mechanisms)) was) q′ (n .detectors) (n .observables) in
-          rw m (all, λ a. accepted-read s c (k .tables) ps (drop (length (s .mechanisms)) was) q′ (n .detectors) (n .observables) (same ∙ sym all ∙ a))
+  module _ (hb : n .mechanisms ≤ length bs) (hw : n .mechanisms ≤ length was) (mid : List Float) (q : mid ≡ fromBits (n .mechanisms) bs was) where
+    abbrev all : Checked
+    all = checkAll (n .detectors) (n .observables) (n .mechanisms) (tables mid ds os cs cds cos es)
+
+    by : (s : Input) (ws ts : List ℕ) → Holds s n (columns bs ds os cs cds cos es ws ts)
+        → (all ≡ checkModel (n .detectors) (n .observables) 0 (modelRead (s .mechanisms))) × (all ≡ Accepted → modelOf (n .mechanisms) (tables mid ds os cs cds cos es) ≡ modelRead (s .mechanisms))
+    by s ws ts k =
+        let c = columns bs ds os cs cds cos es ws ts in
+        let m : n .mechanisms ≡ length (s .mechanisms) = ap (λ (m : State). m .mechanisms) (k .counts) in
+        let q′ = rw m at q in
+        let h = held-of n (k .within) in
+        let all = all-read s c (k .tables) mid (drop (length (s .mechanisms)) was) q′ (n .detectors) (n .observables) (h .detectors) (h .observables) (omega (arith, h .mechanisms, m)) in
+        let same = check-read s c (k .tables) mid (drop (length (s .mechanisms)) was) q′ (n .detectors) (n .observables) in
+        rw m (all, λ a. accepted-read s c (k .tables) mid (drop (length (s .mechanisms)) was) q′ (n .detectors) (n .observables) (same ∙ sym all ∙ a))
+
+    answers-of : (r : Checked) (ws ts : List ℕ) → r ≡ all → r ≡ checkRead n (columns bs ds os cs cds cos es ws ts) was
+    unfolding checkRead
+    answers-of r ws ts e =
+        rw (le-ltb (length bs) (n .mechanisms) hb, le-ltb (length was) (n .mechanisms) hw)
+        (subst (λ (l : List Float). r ≡ checkAll (n .detectors) (n .observables) (n .mechanisms) (tables l ds os cs cds cos es)) q e)
+
+    -- a refusal of the check
+    pub checked-refused : (x : Refusal) (r : Checked) (ps : List Float) → Refused x ≡ all → r ≡ Refused x → ps ≡ replicate (length was) (fin false 0 (pos 0))
+        → ModelChecked n bs ds os cs cds cos es was r ps
+    checked-refused x r ps e a z = record {
+      answers = λ ws ts. answers-of r ws ts (a ∙ e);
+      column = rw a z;
+      answer = λ s ws ts k _. a ∙ e ∙ by s ws ts k .0;
+      model = λ s ws ts k _ b. absurd (no (sym a ∙ b));
+    }
+      where
+        no : Refused x ≡ Accepted → ⊥
+        no b = let y : _≡_ {A = ℕ} 0 1 = cc in omega arith
+
+    -- a model that is accepted
+    pub checked-accepted : Accepted ≡ all → ModelChecked n bs ds os cs cds cos es was Accepted mid
+    checked-accepted e = record {
+      answers = λ ws ts. answers-of Accepted ws ts e;
+      column = q;
+      answer = λ s ws ts k _. e ∙ by s ws ts k .0;
+      model = λ s ws ts k _ a. by s ws ts k .1 (sym e);
+    }

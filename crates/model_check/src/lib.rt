@@ -2,7 +2,21 @@
 use codes::Checked;
 use codes::Refusal;
 use frames::State;
+ghost use mathlib.Core.Path.{_≡_};
+ghost use mathlib.Core.Bool.{false};
+ghost use lib.IntN.{pos};
+ghost use lib.Ieee.{fin};
+ghost use lib.ListN.{length, replicate};
+ghost use Rattle.codes.specs.declared.Checked.the-variants as checked;
 ghost use Rattle.model_check.specs.ModelCheck.{ModelChecked};
+
+// A refusal leaves the column zero, whole.
+fn refuse(r: Refusal, probability: &mut [f64]) -> Checked
+    ensures { λ c. ⌜ (c ≡ checked.Refused r) × (now (probability .exit) ≡ replicate (length (now (probability .entry))) (fin false 0 (pos 0))) ⌝ }
+{
+    fills::fill_f64(probability, 0.0);
+    Checked::Refused(r)
+}
 
 // The probabilities from their bits, then the check of the model.
 pub fn check_read(
@@ -20,13 +34,13 @@ pub fn check_read(
 {
     let mechanisms = n.mechanisms;
     if probability_bits.len() < mechanisms {
-        return Checked::Refused(Refusal::Short);
+        return refuse(Refusal::Short, probability);
     }
     if probability.len() < mechanisms {
-        return Checked::Refused(Refusal::Short);
+        return refuse(Refusal::Short, probability);
     }
     probabilities::probabilities(probability_bits, mechanisms, probability);
-    dem::check_model(
+    let checked = dem::check_model(
         n.detectors,
         n.observables,
         mechanisms,
@@ -37,5 +51,9 @@ pub fn check_read(
         component_detectors,
         component_observables,
         entries,
-    )
+    );
+    match checked {
+        Checked::Refused(r) => refuse(r, probability),
+        Checked::Accepted => Checked::Accepted,
+    }
 }

@@ -6,12 +6,14 @@ use frames::State;
 use graph::Compiled;
 ghost use mathlib.Core.Path.{_≡_};
 ghost use mathlib.Core.List.{[]};
-ghost use lib.ListN.{length};
+ghost use lib.ListN.{length, replicate};
 ghost use Rattle.dem.specs.Positions.{tables};
 ghost use Rattle.graph.specs.Tables.{slices};
-ghost use Rattle.model_graph.specs.Answers.{DecomposedBy, CompiledHeld, GraphBy};
+ghost use Rattle.graph.specs.Outcome.{outcome, Compiles};
+ghost use Rattle.model_graph.specs.Graph.{zeros, heldTables};
+ghost use Rattle.model_graph.specs.Answers.{DecomposedBy, GraphBy};
 
-// ---- tables, by their lengths
+// ---- tables of zeros
 
 // An entry for each of the mechanisms that a split may bring: 17 for each of 1,024.
 fn appended() -> [u32; 17408]
@@ -22,7 +24,7 @@ fn appended() -> [u32; 17408]
 
 // Places for all list entries.
 fn entries() -> [u32; 8192]
-    ensures { λ r. ⌜ 8192 ≡ length r ⌝ }
+    ensures { λ r. ⌜ r ≡ replicate 8192 0 ⌝ }
 {
     [0; 8192]
 }
@@ -47,7 +49,8 @@ fn decompose_read(
     out_component_observables: &mut [u8],
     out_entries: &mut [u32],
 ) -> Decomposed
-    ensures { λ r. ⌜ DecomposedBy n (now («probability_bits» .entry)) (now («detector_counts» .entry)) (now («observable_counts» .entry)) (now («component_counts» .entry)) (now («component_detectors» .entry)) (now («component_observables» .entry)) (now (entries .entry)) (tables (now («out_probability» .entry)) (now («out_detector_counts» .entry)) (now («out_observable_counts» .entry)) (now («out_component_counts» .entry)) (now («out_component_detectors» .entry)) (now («out_component_observables» .entry)) (now («out_entries» .entry))) r (tables (now («out_probability» .exit)) (now («out_detector_counts» .exit)) (now («out_observable_counts» .exit)) (now («out_component_counts» .exit)) (now («out_component_detectors» .exit)) (now («out_component_observables» .exit)) (now («out_entries» .exit))) ⌝ }
+    requires { ⌜ tables (now «out_probability») (now «out_detector_counts») (now «out_observable_counts») (now «out_component_counts») (now «out_component_detectors») (now «out_component_observables») (now «out_entries») ≡ heldTables ⌝ }
+    ensures { λ r. ⌜ DecomposedBy n (now («probability_bits» .entry)) (now («detector_counts» .entry)) (now («observable_counts» .entry)) (now («component_counts» .entry)) (now («component_detectors» .entry)) (now («component_observables» .entry)) (now (entries .entry)) r (tables (now («out_probability» .exit)) (now («out_detector_counts» .exit)) (now («out_observable_counts» .exit)) (now («out_component_counts» .exit)) (now («out_component_detectors» .exit)) (now («out_component_observables» .exit)) (now («out_entries» .exit))) ⌝ }
 {
     let mut probability = [0.0f64; 1024];
     let checked = model_check::check_read(
@@ -122,7 +125,7 @@ fn compile(
     edge_weight: &mut [f64],
     edge_obs: &mut [u64],
 ) -> Compiled
-    ensures { λ r. ⌜ CompiledHeld detectors observables mechanisms (tables (now (probability .entry)) (now («detector_counts» .entry)) (now («observable_counts» .entry)) (now («component_counts» .entry)) (now («component_detectors» .entry)) (now («component_observables» .entry)) (now (entries .entry))) (slices (now («edge_u» .entry)) (now («edge_v» .entry)) (now («edge_weight» .entry)) (now («edge_obs» .entry)) []) r (slices (now («edge_u» .exit)) (now («edge_v» .exit)) (now («edge_weight» .exit)) (now («edge_obs» .exit)) []) ⌝ }
+    ensures { λ r. ⌜ Compiles detectors observables (outcome detectors observables mechanisms (tables (now (probability .entry)) (now («detector_counts» .entry)) (now («observable_counts» .entry)) (now («component_counts» .entry)) (now («component_detectors» .entry)) (now («component_observables» .entry)) (now (entries .entry))) (slices (now («edge_u» .entry)) (now («edge_v» .entry)) (now («edge_weight» .entry)) (now («edge_obs» .entry)) zeros) (replicate 256 0) (replicate 1024 0)) r (slices (now («edge_u» .entry)) (now («edge_v» .entry)) (now («edge_weight» .entry)) (now («edge_obs» .entry)) []) (slices (now («edge_u» .exit)) (now («edge_v» .exit)) (now («edge_weight» .exit)) (now («edge_obs» .exit)) []) ⌝ }
 {
     let mut edge_p = [0.0f64; 1024];
     let mut first = [0u32; 256];
@@ -190,7 +193,7 @@ pub fn model_graph(
         &mut out_entries,
     );
     match decomposed {
-        Decomposed::Refused(r) => Compiled::Refused(r),
+        Decomposed::Refused(r) => graph::refuse(r, edge_u, edge_v, edge_weight, edge_obs),
         Decomposed::Into(counts) => compile(
             n.detectors,
             n.observables,

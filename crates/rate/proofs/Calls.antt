@@ -26,16 +26,21 @@ use Rattle.batch.specs.Batch.{ownLong}
 use Rattle.batch.proofs.Calls.{accepts, rows-long}
 use Rattle.failures.specs.declared.ErrorRate.{ErrorRate}
 use Rattle.failures.specs.declared.ErrorRate.the-variants as answer
-use Rattle.failures.specs.Failures.{differs, failuresIn, rateOf, answerOf, Comparable}
+use Rattle.failures.specs.Failures.{differs, failuresIn, rateOf, sheetOf, callRow, answerOf, Comparable}
 use Rattle.rate_checks.specs.Checks.{checkRate}
 use Rattle.rate_checks.proofs.Laws.{Passed, rate-accepted}
-use Rattle.rate.specs.Rate.{Compared, graphOfCall, checks, shape, failed, failures, Rates}
+use Rattle.rate.specs.Rate.{Compared, graphOfCall, checks, shape, failed, failures, outcome, Rates}
 use Rattle.rate.proofs.Clear.{left-clear}
 
 -- where decoding refuses, no rate is looked at
 same-answer : (decoded then : Checked) {x y : Float} → (decoded ≡ Accepted → x ≡ y) → answerOf (andThen decoded then) x ≡ answerOf (andThen decoded then) y
 same-answer Accepted then f = ap (answerOf then) (f refl)
 same-answer (Refused r) then f = refl
+
+-- the answer on the sheet
+on-sheet : (c : Checked) (rate : Float) → sheetOf (answerOf c rate) ≡ callRow c rate
+on-sheet (Refused r) rate = refl
+on-sheet Accepted rate = refl
 
 module _ (c : Compared) where
   abbrev O : ℕ
@@ -51,7 +56,7 @@ module _ (c : Compared) where
   checks-by long r p q = q ∙ ap (λ (b : Bool). checkRate (c .batch .graph) b (c .batch .rows) (c .batch .shots) (c .batch .width) (c .truth) (c .true-shots) (c .true-width)) p
 
   pub refused : {r : Refusal} → Refused r ≡ checks c → Rates c (answer.Refused r) (c .batch .out)
-  refused e = record { answers = rw (sym e) refl; rows = rw (sym e) refl }
+  refused e = record { sheet = rw (sym e) refl; answers = rw (sym e) refl; rows = rw (sym e) refl }
 
   module _ (a : Accepted ≡ checks c) where
     pub passed : Passed (c .batch .graph) (ownLong (c .batch)) (c .batch .rows) (c .batch .shots) (c .batch .width) (c .truth) (c .true-shots) (c .true-width)
@@ -91,11 +96,10 @@ module _ (c : Compared) where
           (λ s m. ap (λ (x : List ℕ). differs O x (rowAt (words O) (c .truth) s)) (done d s (member-below s Shots m))))
 
       pub rated : {r : ErrorRate} → r ≡ answerOf (andThen decoded (shape c)) (rateOf (c .batch .graph .observables) (failuresIn (c .batch .graph .observables) (c .batch .shots) out (c .truth)) (c .batch .shots)) → Rates c r out
-      rated e = record {
-        answers = rw (sym a) (e ∙ same-answer decoded (shape c) (λ d. ap (λ (n : ℕ). rateOf O n Shots) (same-failures d))
-            ∙ ap (λ (x : Checked). answerOf (andThen x (shape c)) (rateOf O (failures c) Shots)) (k .0));
-        rows = rw (sym a) (k .1);
-      }
+      rated {r} e =
+          let p : r ≡ answerOf (outcome c) (rateOf O (failures c) Shots) = rw (sym a) (e ∙ same-answer decoded (shape c) (λ d. ap (λ (n : ℕ). rateOf O n Shots) (same-failures d))
+          ∙ ap (λ (x : Checked). answerOf (andThen x (shape c)) (rateOf O (failures c) Shots)) (k .0)) in
+          record { sheet = ap sheetOf p ∙ on-sheet (outcome c) (rateOf O (failures c) Shots); answers = p; rows = rw (sym a) (k .1) }
 
 -- tables of another content and the same lengths
 pub still-rates : (f : ℕ → ℕ → ℕ → Compared) {a b c a′ b′ c′ : ℕ} {r : ErrorRate} {out : List ℕ} → a′ ≡ a → b′ ≡ b → c′ ≡ c → Rates (f a′ b′ c′) r out → Rates (f a b c) r out

@@ -15,7 +15,7 @@ use Rattle.batch_shot.specs.Row.{rowFor}
 use Rattle.batch_rows.specs.Rows.{checkShotsOf, rowsOf}
 use Rattle.batch.specs.Batch.{Handed, ownLong, outAfter}
 use Rattle.failures.specs.declared.ErrorRate.{ErrorRate}
-use Rattle.failures.specs.Failures.{differs, rateOf, shapeOf, answerOf}
+use Rattle.failures.specs.Failures.{differs, rateOf, shapeOf, sheetOf, callRow, answerOf}
 use Rattle.rate_checks.specs.Checks.{checkRate}
 
 -- what the rate is handed: a batch, and the true observables with their own number of shots and width
@@ -55,5 +55,6 @@ module _ (c : Compared) where
 
 -- all that the call promises: the answer, and every word of the output, untouched where a check before decoding refuses. What the list and the scratch slices hold after it is free.
 pub record Rates (c : Compared) (r : ErrorRate) (out : List ℕ) : Type 0 where
+  pub sheet : sheetOf r ≡ callRow (outcome c) (rateOf (c .batch .graph .observables) (failures c) (c .batch .shots))
   pub answers : r ≡ answerOf (outcome c) (rateOf (c .batch .graph .observables) (failures c) (c .batch .shots))
   pub rows : out ≡ outAfter (checks c) (c .batch .out) (rowsOf (graphOfCall c) (c .batch .rows) (below (c .batch .shots)) (c .batch .out))

@@ -23,7 +23,7 @@ use Rattle.frames.specs.Input.{Input, Read, next, refused, inOrder, after, over
 use Rattle.frames.specs.Counts.{countsOf, answerOf, countAfter, overCounts, capped, frameLine, lineOf}
 use Rattle.frames.proofs.FrameKinds.{frame-1, frame-2, frame-3, frame-4, frame-5, frame-6, frame-none, order-none, held-of, first-count, second-count}
 use Rattle.frames.proofs.Answers.{answers, counts-after, follows, order-component}
-use Rattle.reader.specs.Columns.{Columns, columnsAt, roomy, listed, storedFrame, stored, Storable, Holds, readBy, LineRead}
+use Rattle.reader.specs.Columns.{Columns, columnsAt, roomy, listed, answerTo, storedFrame, stored, Storable, Holds, readBy, LineRead}
 use Rattle.reader.proofs.Stored.{room-of, WordsFit, store-frame}
 
 -- ---- two lists at byte i
@@ -182,20 +182,24 @@ frame-stored s line c t e g w k = go (frameOf (s .detectors) (s .observables) (b
 -- ---- the contract
 
 module _ (line : List ℕ) (n : State) (c : Columns) where
+  by-line : overCounts n ≡ false → roomy c ≡ true → answerTo line n c ≡ lineOf n line
+  unfolding answerTo
+  by-line w g = rw (w, g) refl
+
   pub over-read : overCounts n ≡ true → LineRead line n c (Refused refusal.Limit) c
+  unfolding answerTo
   over-read t = record {
-    limit = λ _. refl;
-    short = λ f _. clash t f;
-    untouched = λ x _. refl;
+    answers = rw t refl;
+    leaves = refl;
     answer = λ s h _. clash t (h .within);
     tables = λ s h _. clash t (h .within);
   }
 
   pub short-read : overCounts n ≡ false → roomy c ≡ false → LineRead line n c (Refused refusal.Short) c
+  unfolding answerTo
   short-read w f = record {
-    limit = λ t. clash t w;
-    short = λ _ _. refl;
-    untouched = λ x _. refl;
+    answers = rw (w, f) refl;
+    leaves = refl;
     answer = λ s h g. clash g f;
     tables = λ s h g. clash g f;
   }
@@ -205,9 +209,8 @@ module _ (line : List ℕ) (n : State) (c : Columns) where
 
   pub refused-read : overCounts n ≡ false → roomy c ≡ true → (x : Refusal) → Refused x ≡ lineOf n line → LineRead line n c (Refused x) c
   refused-read w g x e = record {
-    limit = λ t. clash t w;
-    short = λ _ f. clash g f;
-    untouched = λ y _. refl;
+    answers = e ∙ sym (by-line w g);
+    leaves = refl;
     answer = λ s h _. answered (Refused x) e s h;
     tables = λ s h _. h .tables ∙ ap (λ (u : Input). columnsAt u c) (sym (read-refused s line x (sym (answered (Refused x) e s h))));
   }
@@ -215,9 +218,8 @@ module _ (line : List ℕ) (n : State) (c : Columns) where
   pub next-read : overCounts n ≡ false → roomy c ≡ true → (t : State) (left : Columns) → Next t ≡ lineOf n line
       → left ≡ stored n (frameOf (n .detectors) (n .observables) (bytesOf line)) c → LineRead line n c (Next t) left
   next-read w g t left e q = record {
-    limit = λ z. clash z w;
-    short = λ _ f. clash g f;
-    untouched = λ x z. never-next x t (sym z);
+    answers = e ∙ sym (by-line w g);
+    leaves = q;
     answer = λ s h _. answered (Next t) e s h;
     tables = λ s h _.
         q ∙ ap (λ (m : State). stored m (frameOf (m .detectors) (m .observables) (bytesOf line)) c) (h .counts)

@@ -2,7 +2,7 @@
 use Prim.Native.Nat.{ℕ, _+_, _-_, _*_, _<_, _≤_, min}
 use mathlib.Core.Path.{_≡_}
 use mathlib.Core.List.{List, _++_, map}
-use mathlib.Core.Bool.{Bool, true, false, _&&_}
+use mathlib.Core.Bool.{Bool, true, false, cond, _&&_}
 use mathlib.Core.Option.{Option, none, some}
 use lib.ListN.{length, getD, drop, set}
 use lib.Seq.{sets}
@@ -10,14 +10,15 @@ use lib.Dec.{leb}
 use Rattle.codes.specs.declared.Refusal.{Refusal}
 use Rattle.codes.specs.declared.Refusal.the-variants as refusal
 use Rattle.bits.specs.Rows.{words}
+use Rattle.hex.specs.Hex.{bytesOf}
 use Rattle.dem.specs.Model.{Symptom}
 use Rattle.dem.specs.Tables.{written}
 use Rattle.frames.specs.declared.State.{State}
 use Rattle.frames.specs.declared.Line.{Line}
-use Rattle.frames.specs.declared.Line.the-variants.{Refused}
-use Rattle.frames.specs.Frames.{Frame, header, mechanism, component, end, row, truth, kindOf, symptomLong, symptomOf}
+use Rattle.frames.specs.declared.Line.the-variants.{Next, Refused}
+use Rattle.frames.specs.Frames.{Frame, header, mechanism, component, end, row, truth, frameOf, kindOf, symptomLong, symptomOf}
 use Rattle.frames.specs.Input.{Input, Read, next, refused, tablesRead, readLine}
-use Rattle.frames.specs.Counts.{countsOf, answerOf, sizeOf, overCounts}
+use Rattle.frames.specs.Counts.{countsOf, answerOf, sizeOf, overCounts, lineOf}
 
 pub record Columns : Type 0 where
   -- an entry for each mechanism
@@ -159,13 +160,20 @@ abbrev pub readBy : Input → Read → Input
 readBy s (next t) = t
 readBy s (refused r) = s
 
--- the answer r to a line, and the tables that it leaves
+-- the answer to a line: 1 for numbers that no line leads to, 2 for tables too short, else by the numbers
+unfoldable pub answerTo : List ℕ → State → Columns → Line
+unfolding lineOf
+answerTo line n c = cond (overCounts n) (Refused refusal.Limit) (cond (roomy c) (lineOf n line) (Refused refusal.Short))
+
+-- the tables: a line that is refused, with whatever code, writes nothing; else its frame is stored
+abbrev pub columnsLeft : Line → List ℕ → State → Columns → Columns
+columnsLeft (Refused x) line n c = c
+columnsLeft (Next m) line n c = stored n (frameOf (n .detectors) (n .observables) (bytesOf line)) c
+
+-- all that the call promises: its answer r to a line and every word that it leaves, whatever the numbers and the tables
 pub record LineRead (line : List ℕ) (n : State) (c : Columns) (r : Line) (left : Columns) : Type 0 where
-  -- numbers that no line leads to, and tables too short
-  pub limit : overCounts n ≡ true → r ≡ Refused refusal.Limit
-  pub short : overCounts n ≡ false → roomy c ≡ false → r ≡ Refused refusal.Short
-  -- a refused line writes nothing
-  pub untouched : (x : Refusal) → r ≡ Refused x → left ≡ c
-  -- else the answer is that of the definition, and what is read stands at the front of every table
+  pub answers : r ≡ answerTo line n c
+  pub leaves : left ≡ columnsLeft r line n c
+  -- and where they are those of what was read, the answer is that of the definition, and what is read with the line stands at the front of every table
   pub answer : (s : Input) → Holds s n c → roomy c ≡ true → r ≡ answerOf (readLine s line)
   pub tables : (s : Input) → Holds s n c → roomy c ≡ true → left ≡ columnsAt (readBy s (readLine s line)) c

@@ -43,11 +43,11 @@ row-differs : _≡_ {A = List ℕ} (0 ∷ []) (1 ∷ []) → ⊥
 row-differs e = let z : _≡_ {A = ℕ} 0 1 = cc in omega arith
 
 -- a cluster active after the last round
-still-active : (a : ℕ) → a ∷ [] ≡ [] → ⊥
+pub still-active : (a : ℕ) → a ∷ [] ≡ [] → ⊥
 still-active a e = let z : _≡_ {A = ℕ} 0 1 = cc in omega arith
 
 -- a round finished where no cluster was active
-over : ended ≡ onward → ⊥
+pub over : ended ≡ onward → ⊥
 over e = let z : _≡_ {A = ℕ} 0 1 = cc in omega arith
 
 -- a Pass for a refusal
@@ -79,6 +79,10 @@ never-written demand = row-differs (on demand true false .whole 1 (0 ∷ []) ref
 one-round-more : Breaks Wrong.oneRoundMore
 unfolding both-edges Wrong.oneRoundMore after
 one-round-more demand = over (on demand false false .rounds 1 [] refl .0 .each 0 (omega arith) .begun)
+
+one-round-fewer : Breaks Wrong.oneRoundFewer
+unfolding both-edges Wrong.oneRoundFewer after Ieee.div Ieee.sub Ieee.ofInt Ieee.le
+one-round-fewer demand = still-active 0 (on demand false true .rounds 1 (1 ∷ 0 ∷ []) refl .1)
 
 same-rounds : (m : ℕ) → Breaks (Wrong.sameRounds m)
 unfolding both-edges Wrong.sameRounds after Ieee.div Ieee.sub Ieee.ofInt Ieee.le Ieee.mul
@@ -134,6 +138,7 @@ refuted = record {
   zeroRow = zero-row;
   neverWritten = never-written;
   oneRoundMore = one-round-more;
+  oneRoundFewer = one-round-fewer;
   noRounds = no-rounds;
   sameRounds = same-rounds;
   saturateAll = saturate-all;

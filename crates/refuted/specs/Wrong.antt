@@ -75,6 +75,11 @@ unfoldable pub oneRoundMore : Programs
 unfolding answering counted decode
 oneRoundMore = answering (λ g lit. counted suc (decode g lit))
 
+-- one round too few
+unfoldable pub oneRoundFewer : Programs
+unfolding answering counted decode
+oneRoundFewer = answering (λ g lit. counted (λ n. n - 1) (decode g lit))
+
 -- the same invented count for every shot
 unfoldable pub sameRounds : ℕ → Programs
 unfolding answering counted decode

@@ -28,12 +28,6 @@ fn bytes() -> [u8; 65536]
     [0; 65536]
 }
 
-fn entries() -> [u32; 8192]
-    ensures { λ r. ⌜ 8192 ≡ length r ⌝ }
-{
-    [0; 8192]
-}
-
 // Two slices with the same bytes.
 fn same(a: &[u8], b: &[u8]) -> bool {
     if a.len() != b.len() {
@@ -72,41 +66,10 @@ fn size_at(head: &[u8], at: usize) -> usize
     65536 * (high as usize) + low as usize
 }
 
-// An input answered over tables of its own, and compared. Long for its tables, one a line.
+// An input answered, and compared.
 fn answered(input: &[u8], expected: &[u8]) -> bool {
     let mut out = bytes();
-    let mut line = [0u8; 2062];
-    let mut probability_bits = [0u64; 1024];
-    let mut detector_counts = [0u8; 1024];
-    let mut observable_counts = [0u8; 1024];
-    let mut component_counts = [0u8; 1024];
-    let mut component_detectors = [0u8; 1024];
-    let mut component_observables = [0u8; 1024];
-    let mut entries = crate::entries();
-    let mut row = [0u64; 4];
-    let mut truth = [0u64; 2];
-    let mut edge_u = [0u32; 1024];
-    let mut edge_v = [0u32; 1024];
-    let mut edge_weight = [0.0f64; 1024];
-    let mut edge_obs = [0u64; 2048];
-    let answer = whole_input::answer_input(
-        input,
-        &mut line,
-        &mut probability_bits,
-        &mut detector_counts,
-        &mut observable_counts,
-        &mut component_counts,
-        &mut component_detectors,
-        &mut component_observables,
-        &mut entries,
-        &mut row,
-        &mut truth,
-        &mut edge_u,
-        &mut edge_v,
-        &mut edge_weight,
-        &mut edge_obs,
-        &mut out,
-    );
+    let answer = whole_input::answer_input(input, &mut out);
     match answer {
         Output::NoRoom => false,
         Output::Whole(n) => same(&out[0..n], expected),

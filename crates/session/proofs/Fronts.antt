@@ -2,7 +2,7 @@
 use Prim.Native.Nat.{ℕ, _+_, _-_, _*_, _≤_}
 use native.Mathlib.Omega.{arith}
 use native.Mathlib.Nat.{mul-le-mul, add-comm, suc-mul, zero-mul}
-use mathlib.Core.Path.{_≡_, refl, sym, ap, ap₂, _∙_}
+use mathlib.Core.Path.{_≡_, refl, sym, ap, ap₂, _∙_, subst}
 use mathlib.Core.Bool.{true}
 use mathlib.Core.List.{List, [], _∷_, _++_, map}
 use lib.ListN.{length, take, drop, length-append, length-drop}
@@ -16,9 +16,10 @@ use Rattle.graph.proofs.Slices.{row-long}
 use Rattle.frames.specs.Input.{start}
 use Rattle.frames.specs.Counts.{countsOf}
 use Rattle.frames.specs.declared.State.{State}
+use Rattle.reader.specs.Columns.{Columns}
 use Rattle.session.specs.declared.Numbers.{Numbers}
-use Rattle.session.specs.Output.{begin}
-use Rattle.session.specs.Kept.{numbersOf}
+use Rattle.session.specs.Output.{Session, Answer, goes, ends, begin}
+use Rattle.session.specs.Kept.{numbersOf, Keeps, KeptOn}
 
 -- ---- tables
 
@@ -54,6 +55,17 @@ flat-long o (e ∷ es) =
 pub words-few : (n o w : ℕ) → n ≤ 1024 → o ≤ 128 → w ≡ words o → n * w ≤ 2048
 unfolding words
 words-few n o w h k e = mul-le-mul {n₂ = 1024} {m₂ = 2} h (omega (arith, e, k))
+
+-- ---- where the session goes on
+
+-- the tables are kept, by the answer
+abbrev pub Left : Answer → Columns → Slices → Type 0
+Left (goes t text) c g = Keeps t c g
+Left (ends r) c g = Unit {0}
+
+pub kept-on : (a : Answer) (c : Columns) (g : Slices) → Left a c g → KeptOn a c g
+kept-on (goes s text) c g k t other e = let q : s ≡ t = cc in subst (λ (x : Session). Keeps x c g) q k
+kept-on (ends r) c g k t other e = absurd (let z : _≡_ {A = ℕ} 0 1 = cc in omega arith)
 
 -- ---- before the first line
 

@@ -16,15 +16,16 @@ use Rattle.frames.specs.Frames.{kindOf}
 use Rattle.frames.specs.Input.{Input, Read, next, refused, readLine}
 use Rattle.frames.specs.Counts.{countsOf, answerOf}
 use Rattle.line_laws.proofs.Words.{row-read, shot-read}
-use Rattle.reader.specs.Columns.{Columns, columnsAt, longEnough, roomy, Holds, readBy, LineRead}
+use Rattle.reader.specs.Columns.{Columns, columnsAt, longEnough, roomy, Holds, readBy, LineRead, columnsLeft}
 use Rattle.reader.proofs.Laws.{laws}
 use Rattle.model_graph.specs.Answers.{Sized, Wide}
 use Rattle.last_line.specs.Last.{refusalText}
 use Rattle.session.specs.declared.Numbers.{Numbers}
 use Rattle.session.specs.declared.Told.{Told}
 use Rattle.session.specs.declared.Told.the-variants as told
-use Rattle.session.specs.Output.{Session, Answer, byKind, byRead, answerLine}
-use Rattle.session.specs.Kept.{numbersOf, Sizes, Keeps, Kept, Left, Tells, Reads, ReadSome, AnswersKind, Answers}
+use Rattle.session.specs.Output.{Session, Answer, ends, byKind, byRead, answerLine}
+use Rattle.session.specs.Kept.{numbersOf, Sizes, Keeps, Kept, Tells, Reads, ReadSome, AnswersKind, Answers}
+use Rattle.session.proofs.Fronts.{kept-on}
 
 -- ---- tables of the same lengths
 
@@ -114,12 +115,15 @@ module _ (text : List ℕ) (n : Numbers) (c : Columns) (g : Slices) (kind : ℕ)
         let t = took (p .session) (p .numbers) (p .keeps) (p .sizes) r d l m e same in
         record { session = p .session; input = t .input; reads = t .reads }
 
-    pub line-refused : (y : Refusal) → r ≡ line.Refused y → (z : Told) (left : Slices) (was out : List ℕ) → (z ≡ told.Ended (length (refusalText y))) × (out ≡ written (refusalText y) was)
-        → Answers text n c g z d left was out
+    pub line-refused : (y : Refusal) → r ≡ line.Refused y → (z : Told) (was out : List ℕ) → (z ≡ told.Ended (length (refusalText y))) × (out ≡ written (refusalText y) was)
+        → Answers text n c g z d g was out
     unfolding answerLine
-    line-refused y e z left was out p = record {
+    line-refused y e z was out p = record {
       answer = λ s q keeps sizes. rw (refused-is s q keeps sizes r d l y e (readLine (s .input) text) refl) (record { told = p .0; text = p .1 });
-      tables = λ s q keeps sizes. rw (refused-is s q keeps sizes r d l y e (readLine (s .input) text) refl) tt;
+      columns = λ s q keeps sizes.
+          rw (refused-is s q keeps sizes r d l y e (readLine (s .input) text) refl) (l .leaves ∙ ap (λ (x : Line). columnsLeft x text (n .state) c) e);
+      slices = λ s q keeps sizes. rw (refused-is s q keeps sizes r d l y e (readLine (s .input) text) refl) refl;
+      keeps = λ s q keeps sizes. rw (refused-is s q keeps sizes r d l y e (readLine (s .input) text) refl) (kept-on (ends y) d g tt);
     }
 
     pub line-next : (m : State) → r ≡ line.Next m → Same c d → (z : Told) (left : Slices) (was out : List ℕ) → AnswersKind kind n m d g z left was out → Answers text n c g z d left was out
@@ -128,7 +132,13 @@ module _ (text : List ℕ) (n : Numbers) (c : Columns) (g : Slices) (kind : ℕ)
       answer = λ s q keeps sizes.
           let t = took s q keeps sizes r d l m e same in
           rw (t .read, ← k) (a .answer s (t .input) (t .reads));
-      tables = λ s q keeps sizes.
+      columns = λ s q keeps sizes.
           let t = took s q keeps sizes r d l m e same in
-          rw (t .read, ← k) (a .tables s (t .input) (t .reads));
+          rw (t .read) (l .tables (s .input) (holds s q keeps sizes) (sizes .room) ∙ ap (λ (x : Read). columnsAt (readBy (s .input) x) c) (t .read));
+      slices = λ s q keeps sizes.
+          let t = took s q keeps sizes r d l m e same in
+          rw (t .read, ← k) (a .leaves s (t .input) (t .reads));
+      keeps = λ s q keeps sizes.
+          let t = took s q keeps sizes r d l m e same in
+          rw (t .read, ← k) (a .keeps s (t .input) (t .reads));
     }

@@ -1,7 +1,7 @@
 -- 04: the graph of the model.
 use Prim.Native.Nat.{ℕ, _*_, _≤_}
 use native.Mathlib.Omega.{arith}
-use mathlib.Core.Path.{_≡_, refl, sym, ap, _∙_}
+use mathlib.Core.Path.{_≡_, refl, sym, ap, _∙_, subst}
 use mathlib.Core.List.{List, [], map}
 use lib.ListN.{length, length-map}
 use lib.Ieee.{Float}
@@ -11,8 +11,8 @@ use Rattle.dem.specs.Tables.{written}
 use Rattle.graph.specs.declared.Compiled.{Compiled}
 use Rattle.graph.specs.declared.Compiled.the-variants as compiled
 use Rattle.graph.specs.Compile.{Edge, Edges, into, refused, obsRow, graphBy}
-use Rattle.graph.specs.Tables.{Slices, flat}
-use Rattle.graph.specs.Outcome.{answerOf, tableLeft}
+use Rattle.graph.specs.Tables.{Slices, slices, flat}
+use Rattle.graph.specs.Outcome.{answerOf, tableLeft, Compiles}
 use Rattle.frames.specs.declared.State.{State}
 use Rattle.frames.specs.Input.{Input, modelRead}
 use Rattle.frames.specs.Counts.{countsOf}
@@ -25,11 +25,18 @@ use Rattle.session.specs.declared.Numbers.{Numbers}
 use Rattle.session.specs.declared.Told.{Told}
 use Rattle.session.specs.declared.Told.the-variants as told
 use Rattle.session.specs.Output.{Session, Answer, atModel, compiled as compiledBy}
-use Rattle.session.specs.Kept.{numbersOf, Sizes, GraphAt, Keeps, toldOf, textOf, Left, Tells, Reads, ReadSome, AnswersModel, ModelBy, ModelSome}
-use Rattle.session.proofs.Fronts.{again, written-fits, flat-long}
+use Rattle.session.specs.Kept.{numbersOf, Sizes, GraphAt, Keeps, toldOf, textOf, slicesBy, graphLeft, Tells, Reads, ReadSome, AnswersModel, ModelBy, ModelSome}
+use Rattle.session.proofs.Fronts.{again, written-fits, flat-long, Left, kept-on}
 
 abbrev edgesRead : Input → Edges
 edgesRead t = graphRead (t .detectors) (t .observables) (modelRead (t .mechanisms))
+
+slices-eq : (u u′ v v′ : List ℕ) (w w′ : List Float) (o o′ : List ℕ) (p p′ : List Float) → u ≡ u′ → v ≡ v′ → w ≡ w′ → o ≡ o′ → p ≡ p′ → slices u v w o p ≡ slices u′ v′ w′ o′ p′
+slices-eq u u′ v v′ w w′ o o′ p p′ e1 e2 e3 e4 e5 = rw (e1, e2, e3, e4, e5) refl
+
+graph-left : (t : Input) (g : Slices) → slicesBy (t .detectors) (t .observables) (edgesRead t) g ≡ graphLeft 4 t g
+unfolding graphLeft
+graph-left t g = refl
 
 no-edges : {A : Type 0} {k : ℕ} {x : Refusal} → compiled.Edges k ≡ compiled.Refused x → A
 no-edges e = let z : _≡_ {A = ℕ} 0 1 = cc in absurd (omega arith)
@@ -39,8 +46,18 @@ module _ (s : Session) (t : Input) (c : Columns) (g : Slices) (r : Reads s t 4 (
   holds = record { counts = refl; within = r .within; tables = r .tables }
 
   module _ (a : Compiled) (left : Slices) (b : GraphRead (countsOf t) c g a left) where
+    compiles : Compiles (t .detectors) (t .observables) (edgesRead t) a g left
+    compiles = subst (λ (e : Edges). Compiles (t .detectors) (t .observables) e a g left) (b .read t holds (r .sizes .sized) (r .sizes .wide)) (b .compiles)
+
+    compiled-to : (x : Edges) → edgesRead t ≡ x → Compiles (t .detectors) (t .observables) x a g left
+    compiled-to x q = subst (λ (e : Edges). Compiles (t .detectors) (t .observables) e a g left) q compiles
+
     answer-is : a ≡ answerOf (edgesRead t)
-    answer-is = b .answer t holds (r .sizes .sized) (r .sizes .wide)
+    answer-is = compiles .answer
+
+    -- the tables, whether it is refused or not
+    left-is : left .edge-p ≡ g .edge-p → left ≡ graphLeft 4 t g
+    left-is p = slices-eq _ _ _ _ _ _ _ _ _ _ (compiles .ends) (compiles .others) (compiles .weights) (compiles .rows) p ∙ graph-left t g
 
     module _ (k : ℕ) (e : a ≡ compiled.Edges k) (same : length (left .edge-u) ≡ length (g .edge-u)) where
       few-by : (x : Edges) → edgesRead t ≡ x → k ≤ 1024
@@ -48,7 +65,7 @@ module _ (s : Session) (t : Input) (c : Columns) (g : Slices) (r : Reads s t 4 (
       few-by (refused y) q = no-edges (sym e ∙ answer-is ∙ ap answerOf q)
       few-by (into es) q =
           let n : k ≡ length es = let z : compiled.Edges k ≡ compiled.Edges (length es) = sym e ∙ answer-is ∙ ap answerOf q in cc in
-          let fits = written-fits (map (λ e. e .u) es) (g .edge-u) (left .edge-u) (b .tables t es holds (r .sizes .sized) (r .sizes .wide) q .0) same in
+          let fits = written-fits (map (λ e. e .u) es) (g .edge-u) (left .edge-u) (compiled-to (into es) q .ends) same in
           omega (arith, n, fits, length-map es (λ e. e .u), r .sizes .few)
 
       pub few : k ≤ 1024
@@ -66,7 +83,7 @@ module _ (s : Session) (t : Input) (c : Columns) (g : Slices) (r : Reads s t 4 (
       on-by w was h (refused y) q = no-edges (sym e ∙ answer-is ∙ ap answerOf q)
       on-by w was h (into es) q =
           let n : k ≡ length es = let z : compiled.Edges k ≡ compiled.Edges (length es) = sym e ∙ answer-is ∙ ap answerOf q in cc in
-          let tables = b .tables t es holds (r .sizes .sized) (r .sizes .wide) q in
+          let tables = compiled-to (into es) q in
           let g′ = graphBy (t .detectors) (t .observables) es in (
             record {
               told = ap (λ (m : Numbers). told.On m 0) (numbers-eq w _ _ (n ∙ sym (length-map es (λ e. e .u)))
@@ -78,10 +95,10 @@ module _ (s : Session) (t : Input) (c : Columns) (g : Slices) (r : Reads s t 4 (
               tables = r .tables;
               row = r .row;
               graph = record {
-                u = again (g′ .edge-u) (g .edge-u) (left .edge-u) (tables .0);
-                v = again (g′ .edge-v) (g .edge-v) (left .edge-v) (tables .1);
-                weight = again (g′ .edge-weight) (g .edge-weight) (left .edge-weight) (tables .2);
-                obs = again (flat (g′ .edge-obs)) (g .edge-obs) (left .edge-obs) (tables .3);
+                u = again (g′ .edge-u) (g .edge-u) (left .edge-u) (tables .ends);
+                v = again (g′ .edge-v) (g .edge-v) (left .edge-v) (tables .others);
+                weight = again (g′ .edge-weight) (g .edge-weight) (left .edge-weight) (tables .weights);
+                obs = again (flat (g′ .edge-obs)) (g .edge-obs) (left .edge-obs) (tables .rows);
                 others = length-map es _ ∙ sym (length-map es _);
                 weights = length-map es _ ∙ sym (length-map es _);
               };
@@ -129,20 +146,31 @@ module _ (n : Numbers) (state : State) (bs ds os cs cds cos es : List ℕ) (g : 
         rw (r .counts) (held-of (countsOf t) (r .within) .observables),
       )
 
-  pub model-on : (k w : ℕ) (was : List ℕ) → a ≡ compiled.Edges k → length (left .edge-u) ≡ length (g .edge-u) → w ≡ k * words (state .observables)
+  leaves : left .edge-p ≡ g .edge-p → (ws ts : List ℕ) (s : Session) (t : Input) → Reads s t 4 n state (columns bs ds os cs cds cos es ws ts) g → left ≡ graphLeft 4 t g
+  leaves p ws ts s t r = left-is s t (columns bs ds os cs cds cos es ws ts) g (at s t ws ts r) a left (graph-at s t ws ts r) p
+
+  pub model-on : (k w : ℕ) (was : List ℕ) → left .edge-p ≡ g .edge-p → a ≡ compiled.Edges k → length (left .edge-u) ≡ length (g .edge-u) → w ≡ k * words (state .observables)
       → ModelBy n state bs ds os cs cds cos es g (told.On (record { state = state; edges = k; words = w; shots = n .shots; failures = n .failures }) 0) left was was
   unfolding atModel
-  model-on k w was e same h ws ts =
+  model-on k w was p e same h ws ts =
       let both : (s : Session) (t : Input) → Reads s t 4 n state (columns bs ds os cs cds cos es ws ts) g
       → Tells (atModel s t) (told.On (record { state = state; edges = k; words = w; shots = n .shots; failures = n .failures }) 0) was was × Left (atModel s t) (columns bs ds os cs cds cos es ws ts) left
       = λ s t r. rw (r .numbers, r .counts) (on-by s t (columns bs ds os cs cds cos es ws ts) g (at s t ws ts r) a left (graph-at s t ws ts r) k e same w was (rw (r .counts) at h) (edgesRead t) refl) in
-      record { answer = λ s t r. both s t r .0; tables = λ s t r. both s t r .1 }
+      record {
+        answer = λ s t r. both s t r .0;
+        leaves = leaves p ws ts;
+        keeps = λ s t r. kept-on (compiledBy s t (edgesRead t)) (columns bs ds os cs cds cos es ws ts) left (both s t r .1);
+      }
 
-  pub model-refused : (y : Refusal) (was out : List ℕ) (z : Told) → a ≡ compiled.Refused y → (z ≡ told.Ended (length (refusalText y))) × (out ≡ written (refusalText y) was)
+  pub model-refused : (y : Refusal) (was out : List ℕ) (z : Told) → left .edge-p ≡ g .edge-p → a ≡ compiled.Refused y → (z ≡ told.Ended (length (refusalText y))) × (out ≡ written (refusalText y) was)
       → ModelBy n state bs ds os cs cds cos es g z left was out
   unfolding atModel
-  model-refused y was out z e p ws ts =
+  model-refused y was out z same e p ws ts =
       let both : (s : Session) (t : Input) → Reads s t 4 n state (columns bs ds os cs cds cos es ws ts) g
       → Tells (atModel s t) z was out × Left (atModel s t) (columns bs ds os cs cds cos es ws ts) left
       = λ s t r. refused-by s t (columns bs ds os cs cds cos es ws ts) g (at s t ws ts r) a left (graph-at s t ws ts r) y e (edgesRead t) refl was z out (p .0) (p .1) in
-      record { answer = λ s t r. both s t r .0; tables = λ s t r. both s t r .1 }
+      record {
+        answer = λ s t r. both s t r .0;
+        leaves = leaves same ws ts;
+        keeps = λ s t r. kept-on (compiledBy s t (edgesRead t)) (columns bs ds os cs cds cos es ws ts) left (both s t r .1);
+      }

@@ -29,8 +29,8 @@ use Rattle.session.specs.declared.Numbers.{Numbers}
 use Rattle.session.specs.declared.Told.{Told}
 use Rattle.session.specs.declared.Told.the-variants as tolds
 use Rattle.session.specs.Output.{Session, Answer, maxCount, one, decoded, shotRead, counted, atShot}
-use Rattle.session.specs.Kept.{numbersOf, Sizes, GraphAt, Keeps, toldOf, textOf, Left, Tells, Reads, ReadSome, ShotBy, ShotSome}
-use Rattle.session.proofs.Fronts.{front-fits, front-is}
+use Rattle.session.specs.Kept.{numbersOf, Sizes, GraphAt, Keeps, toldOf, textOf, KeptOn, Tells, Reads, ReadSome, ShotBy, ShotSome}
+use Rattle.session.proofs.Fronts.{front-fits, front-is, Left, kept-on}
 
 -- ---- one more
 
@@ -58,9 +58,9 @@ module _ (s : Session) (t : Input) (c : Columns) (g : Slices) (r : Reads s t 6 (
   left-counted false e = tt
   left-counted true e = left-by (ltb-true (s .shots) maxCount e) (shotRead (s .graph) t)
 
-  pub shot-left : Left (atShot s t) c g
+  pub shot-left : KeptOn (atShot s t) c g
   unfolding atShot
-  shot-left = left-counted (ltb (s .shots) maxCount) refl
+  shot-left = kept-on (counted (ltb (s .shots) maxCount) s t) c g (left-counted (ltb (s .shots) maxCount) refl)
 
   full : s .shots ≡ maxCount → (was out : List ℕ) (z : Told) → (z ≡ tolds.Ended (length (refusalText Limit))) × (out ≡ written (refusalText Limit) was) → Tells (atShot s t) z was out
   unfolding atShot

@@ -1,18 +1,25 @@
 -- What the numbers and the tables of a session stand for, and what the functions promise of them.
 use Prim.Native.Nat.{ℕ, _≤_}
 use mathlib.Core.Path.{_≡_}
-use mathlib.Core.Bool.{true, false}
-use mathlib.Core.List.{List, []}
+use mathlib.Core.Bool.{true, false, cond}
+use mathlib.Core.List.{List}
+use lib.IntN.{pos}
+use lib.Dec.{eqb}
 use lib.ListN.{length}
-use lib.Ieee.{Float}
+use lib.Ieee.{fin}
+use Rattle.hex.specs.Hex.{bytesOf}
 use Rattle.dem.specs.Tables.{written}
 use Rattle.steps.specs.Graph.{Graph}
+use Rattle.graph.specs.Compile.{Edges, graphBy}
 use Rattle.graph.specs.Tables.{Slices, slices, flat}
+use Rattle.graph.specs.Outcome.{tableLeft}
+use Rattle.frames.specs.Frames.{kindOf}
 use Rattle.frames.specs.declared.State.{State}
-use Rattle.frames.specs.Input.{Input, over}
+use Rattle.frames.specs.Input.{Input, Read, next, refused, over, modelRead, readLine}
 use Rattle.frames.specs.Counts.{countsOf}
 use Rattle.line_laws.specs.Laws.{RowRead, ShotRead}
 use Rattle.reader.specs.Columns.{Columns, columns, columnsAt, roomy}
+use Rattle.model_graph.specs.Graph.{graphRead}
 use Rattle.model_graph.specs.Answers.{Sized, Wide}
 use Rattle.last_line.specs.Last.{refusalText}
 use Rattle.session.specs.declared.Numbers.{Numbers}
@@ -75,10 +82,44 @@ abbrev pub textOf : Answer → List ℕ
 textOf (goes t text) = text
 textOf (ends r) = refusalText r
 
+-- ---- what is left of the tables
+
+-- the graph's tables after 04: the graph at the front of each, then what was there; after a refusal zero, whole
+abbrev pub slicesBy : ℕ → ℕ → Edges → Slices → Slices
+slicesBy D O e g = record {
+  edge-u = tableLeft 0 (λ es. graphBy D O es .edge-u) e (g .edge-u);
+  edge-v = tableLeft 0 (λ es. graphBy D O es .edge-v) e (g .edge-v);
+  edge-weight = tableLeft (fin false 0 (pos 0)) (λ es. graphBy D O es .edge-weight) e (g .edge-weight);
+  edge-obs = tableLeft 0 (λ es. flat (graphBy D O es .edge-obs)) e (g .edge-obs);
+  edge-p = g .edge-p;
+}
+
+-- no line of another kind writes them
+unfoldable pub graphLeft : ℕ → Input → Slices → Slices
+unfolding tableLeft graphRead graphBy flat
+graphLeft kind t g = cond (eqb kind 4) (slicesBy (t .detectors) (t .observables) (graphRead (t .detectors) (t .observables) (modelRead (t .mechanisms))) g) g
+
+-- nor does a line that is refused when it is read
+abbrev pub graphAfter : ℕ → Read → Slices → Slices
+graphAfter kind (next t) g = graphLeft kind t g
+graphAfter kind (refused r) g = g
+
+-- the tables that lines are read into: a line that is refused when it is read writes nothing
+abbrev pub columnsRead : Read → Columns → Columns
+columnsRead (next t) c = columnsAt t c
+columnsRead (refused r) c = c
+
+abbrev pub columnsAfter : Session → List ℕ → Columns → Columns
+columnsAfter s line c = columnsRead (readLine (s .input) line) c
+
+abbrev pub slicesAfter : Session → List ℕ → Slices → Slices
+slicesAfter s line g = graphAfter (kindOf (bytesOf line)) (readLine (s .input) line) g
+
 -- where the session goes on, the tables are kept
-abbrev pub Left : Answer → Columns → Slices → Type 0
-Left (goes t text) c g = Keeps t c g
-Left (ends r) c g = Unit {0}
+abbrev pub KeptOn : Answer → Columns → Slices → Type 0
+KeptOn a c g = (t : Session) (text : List ℕ) → a ≡ goes t text → Keeps t c g
+
+-- ---- what is told
 
 -- the answer r, and the text at the front of the output
 pub record Tells (a : Answer) (r : Told) (was out : List ℕ) : Type 0 where
@@ -109,12 +150,14 @@ pub record ReadSome (kind : ℕ) (n : Numbers) (state : State) (c : Columns) (g 
 -- the answer to it
 pub record AnswersKind (kind : ℕ) (n : Numbers) (state : State) (c : Columns) (g : Slices) (r : Told) (left : Slices) (was out : List ℕ) : Type 0 where
   pub answer : (s : Session) (t : Input) → Reads s t kind n state c g → Tells (byKind kind s t) r was out
-  pub tables : (s : Session) (t : Input) → Reads s t kind n state c g → Left (byKind kind s t) c left
+  pub leaves : (s : Session) (t : Input) → Reads s t kind n state c g → left ≡ graphLeft kind t g
+  pub keeps : (s : Session) (t : Input) → Reads s t kind n state c g → KeptOn (byKind kind s t) c left
 
 -- 04
 pub record AnswersModel (n : Numbers) (state : State) (c : Columns) (g : Slices) (r : Told) (left : Slices) (was out : List ℕ) : Type 0 where
   pub answer : (s : Session) (t : Input) → Reads s t 4 n state c g → Tells (atModel s t) r was out
-  pub tables : (s : Session) (t : Input) → Reads s t 4 n state c g → Left (atModel s t) c left
+  pub leaves : (s : Session) (t : Input) → Reads s t 4 n state c g → left ≡ graphLeft 4 t g
+  pub keeps : (s : Session) (t : Input) → Reads s t 4 n state c g → KeptOn (atModel s t) c left
 
 -- whatever the words of the last shot
 abbrev pub ModelBy : Numbers → State → List ℕ → List ℕ → List ℕ → List ℕ → List ℕ → List ℕ → List ℕ → Slices → Told → Slices → List ℕ → List ℕ → Type 0
@@ -135,7 +178,10 @@ pub record ShotSome (n : Numbers) (state : State) (ws ts : List ℕ) (g : Slices
 
 -- ---- a line
 
--- the answer r to a line, the tables and the text that it leaves
+-- all that the call promises of a session: its answer r to a line with the text, and every word of the tables, whether the line is refused or not
 pub record Answers (line : List ℕ) (n : Numbers) (c : Columns) (g : Slices) (r : Told) (left : Columns) (graph : Slices) (was out : List ℕ) : Type 0 where
   pub answer : (s : Session) → n ≡ numbersOf s → Keeps s c g → Sizes c g → Tells (answerLine s line) r was out
-  pub tables : (s : Session) → n ≡ numbersOf s → Keeps s c g → Sizes c g → Left (answerLine s line) left graph
+  pub columns : (s : Session) → n ≡ numbersOf s → Keeps s c g → Sizes c g → left ≡ columnsAfter s line c
+  pub slices : (s : Session) → n ≡ numbersOf s → Keeps s c g → Sizes c g → graph ≡ slicesAfter s line g
+  -- so that where the session goes on, it can be told the next line
+  pub keeps : (s : Session) → n ≡ numbersOf s → Keeps s c g → Sizes c g → KeptOn (answerLine s line) left graph

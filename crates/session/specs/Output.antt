@@ -101,6 +101,10 @@ unfoldable pub answerLine : Session → List ℕ → Answer
 unfolding readLine bytesOf atModel atShot
 answerLine s line = byRead (kindOf (bytesOf line)) s (readLine (s .input) line)
 
+-- the most bytes that a line is answered with: 85 with two words, and 86 with 256 edges
+abbrev pub longestReply : ℕ
+longestReply = 1066
+
 -- ---- all lines
 
 -- at the end of the input: 8f, or "input ending before 04 or after a 05 is 3"

@@ -17,7 +17,7 @@ ghost use Rattle.frames.specs.Input.{atEnd};
 ghost use Rattle.reader.specs.Columns.{columns};
 ghost use Rattle.last_line.specs.Last.{refusalText, lastText};
 ghost use Rattle.session.specs.declared.Told.the-variants as told;
-ghost use Rattle.session.specs.Output.{begin, one};
+ghost use Rattle.session.specs.Output.{begin, one, longestReply};
 ghost use Rattle.session.specs.Kept.{numbersOf, Kept, ReadSome, AnswersKind, ModelBy, ModelSome, ShotBy, ShotSome, Answers};
 
 // The numbers of a session: of what was read, of the graph from 04 on, of the shots.
@@ -162,7 +162,7 @@ fn answer_shot(
     edge_obs: &[u64],
     out: &mut [u8],
 ) -> Told
-    requires { ⌜ (1066 ≤ length (now out)) × ShotSome n state (now row) (now truth) (slices (now «edge_u») (now «edge_v») (now «edge_weight») (now «edge_obs») []) ⌝ }
+    requires { ⌜ (longestReply ≤ length (now out)) × ShotSome n state (now row) (now truth) (slices (now «edge_u») (now «edge_v») (now «edge_weight») (now «edge_obs») []) ⌝ }
     ensures { λ r. ⌜ ShotBy n state (now (row .entry)) (now (truth .entry)) (slices (now («edge_u» .entry)) (now («edge_v» .entry)) (now («edge_weight» .entry)) (now («edge_obs» .entry)) []) r (now (out .entry)) (now (out .exit)) ⌝ }
 {
     if n.shots == MAX_SHOTS {
@@ -222,7 +222,7 @@ fn answer_kind(
     edge_obs: &mut [u64],
     out: &mut [u8],
 ) -> Told
-    requires { ⌜ (1066 ≤ length (now out)) × ReadSome kind n state (columns (now «probability_bits») (now «detector_counts») (now «observable_counts») (now «component_counts») (now «component_detectors») (now «component_observables») (now entries) (now row) (now truth)) (slices (now «edge_u») (now «edge_v») (now «edge_weight») (now «edge_obs») []) ⌝ }
+    requires { ⌜ (longestReply ≤ length (now out)) × ReadSome kind n state (columns (now «probability_bits») (now «detector_counts») (now «observable_counts») (now «component_counts») (now «component_detectors») (now «component_observables») (now entries) (now row) (now truth)) (slices (now «edge_u») (now «edge_v») (now «edge_weight») (now «edge_obs») []) ⌝ }
     ensures { λ r. ⌜ AnswersKind kind n state (columns (now («probability_bits» .entry)) (now («detector_counts» .entry)) (now («observable_counts» .entry)) (now («component_counts» .entry)) (now («component_detectors» .entry)) (now («component_observables» .entry)) (now (entries .entry)) (now (row .entry)) (now (truth .entry))) (slices (now («edge_u» .entry)) (now («edge_v» .entry)) (now («edge_weight» .entry)) (now («edge_obs» .entry)) []) r (slices (now («edge_u» .exit)) (now («edge_v» .exit)) (now («edge_weight» .exit)) (now («edge_obs» .exit)) []) (now (out .entry)) (now (out .exit)) ⌝ }
 {
     if kind == 4 {
@@ -287,7 +287,7 @@ pub fn answer_line(
     edge_obs: &mut [u64],
     out: &mut [u8],
 ) -> Told
-    requires { ⌜ (1066 ≤ length (now out)) × Kept n (columns (now «probability_bits») (now «detector_counts») (now «observable_counts») (now «component_counts») (now «component_detectors») (now «component_observables») (now entries) (now row) (now truth)) (slices (now «edge_u») (now «edge_v») (now «edge_weight») (now «edge_obs») []) ⌝ }
+    requires { ⌜ (longestReply ≤ length (now out)) × Kept n (columns (now «probability_bits») (now «detector_counts») (now «observable_counts») (now «component_counts») (now «component_detectors») (now «component_observables») (now entries) (now row) (now truth)) (slices (now «edge_u») (now «edge_v») (now «edge_weight») (now «edge_obs») []) ⌝ }
     ensures { λ r. ⌜ Answers (now (line .entry)) n (columns (now («probability_bits» .entry)) (now («detector_counts» .entry)) (now («observable_counts» .entry)) (now («component_counts» .entry)) (now («component_detectors» .entry)) (now («component_observables» .entry)) (now (entries .entry)) (now (row .entry)) (now (truth .entry))) (slices (now («edge_u» .entry)) (now («edge_v» .entry)) (now («edge_weight» .entry)) (now («edge_obs» .entry)) []) r (columns (now («probability_bits» .exit)) (now («detector_counts» .exit)) (now («observable_counts» .exit)) (now («component_counts» .exit)) (now («component_detectors» .exit)) (now («component_observables» .exit)) (now (entries .exit)) (now (row .exit)) (now (truth .exit))) (slices (now («edge_u» .exit)) (now («edge_v» .exit)) (now («edge_weight» .exit)) (now («edge_obs» .exit)) []) (now (out .entry)) (now (out .exit)) ⌝ }
 {
     let kind = kind_of(line);

@@ -5,11 +5,12 @@ use mathlib.Core.Path.{_≡_, refl, sym, ap, ap₂, _∙_}
 use mathlib.Core.Bool.{Bool, true, false, not, _&&_}
 use mathlib.Core.List.{List, [], _∷_, _++_, append-assoc, append-nil}
 use lib.ListN.{length, getD, take, drop, set, length-append, length-take, length-drop, take-append-drop}
-use lib.Seq.{take-suc, take-suc-set, getD-drop, drop-drop, take-add, take-at, take-all, length-take-le}
+use lib.Seq.{take-suc, take-suc-set, getD-drop, drop-drop, take-add, length-take-le, drop-append-le, sets, sets-eq, length-sets}
 use lib.Dec.{eqb}
 use borrow.Rule.Slice.PartMut.{midOf, putMid, postOf, mid-len, same-len-mid}
 use borrow.Author.Tests.{ne-eqb}
 use Rattle.dem.specs.Tables.{written}
+use Rattle.hex.proofs.Texts.{sets-append}
 use Rattle.line_laws.specs.Laws.{unended}
 use Rattle.stream.specs.Fed.{between, LineEnd, Appended}
 
@@ -92,15 +93,28 @@ appended filled text out part h p same =
     let k = length out - filled in
     let old = midOf filled k out in
     let post = postOf filled k out in
-    let n : length (take filled out) ≡ filled = length-take-le filled out h in
     let mid : length old ≡ length out - filled = mid-len filled (length out) out (omega arith) in
     let long : length part ≡ length text + length (drop (length text) old) = ap length p ∙ length-append text (drop (length text) old) in
     let fits : filled + length text ≤ length out = omega (arith, long, same, mid, h) in
-    let cut : putMid filled k out part ≡ (take filled out ++ text) ++ (drop (length text) old ++ post)
-    = ap (λ (x : List ℕ). take filled out ++ (x ++ post)) p ∙ ap (λ (x : List ℕ). take filled out ++ x) (append-assoc text (drop (length text) old) post)
-    ∙ sym (append-assoc (take filled out) text (drop (length text) old ++ post)) in
-    let whole : length (putMid filled k out part) ≡ length out = same-len-mid filled k out part same in
+    let rest : drop (length text) old ++ post ≡ drop (filled + length text) out
+    = sym (drop-append-le (length text) old post (omega (arith, fits, mid))) ∙ ap (drop (length text)) (take-append-drop k (drop filled out)) ∙ drop-drop (length text) filled out in
     record {
-      fits = omega (arith, fits, whole);
-      output = ap (take (filled + length text)) cut ∙ take-at (take filled out ++ text) (drop (length text) old ++ post) (filled + length text) (length-append (take filled out) text ∙ ap (λ (j : ℕ). j + length text) n);
+      fits = fits;
+      output = ap (λ (x : List ℕ). take filled out ++ (x ++ post)) p ∙ ap (λ (x : List ℕ). take filled out ++ x) (append-assoc text (drop (length text) old) post ∙ ap (λ (x : List ℕ). text ++ x) rest)
+          ∙ sym (append-assoc (take filled out) text (drop (filled + length text) out)) ∙ sym (sets-eq text out filled fits);
     }
+
+-- no text
+pub appended-none : (filled : ℕ) (out : List ℕ) → filled ≤ length out → Appended filled [] out out
+appended-none filled out h = record { fits = omega (arith, h); output = refl }
+
+-- one text behind another
+pub appended-both : (filled next : ℕ) (a b out out′ out″ : List ℕ) → next ≡ filled + length a → Appended filled a out out′ → Appended next b out′ out″ → Appended filled (a ++ b) out out″
+appended-both filled next a b out out′ out″ n p q = record {
+  fits = omega (arith, n, q .fits, ap length (p .output), length-sets out filled a, length-append a b);
+  output = q .output ∙ ap (λ (k : ℕ). sets out′ k b) n ∙ ap (λ (l : List ℕ). sets l (filled + length a) b) (p .output) ∙ sym (sets-append out filled a b);
+}
+
+-- the output keeps its length
+pub appended-long : (filled : ℕ) (text out out′ : List ℕ) → Appended filled text out out′ → length out′ ≡ length out
+appended-long filled text out out′ p = ap length (p .output) ∙ length-sets out filled text

@@ -4,8 +4,9 @@ use mathlib.Core.Path.{_≡_, refl, sym, ap, _∙_}
 use mathlib.Core.List.{List, [], _∷_, _++_, append-assoc, append-nil}
 use Rattle.frames.specs.Input.{linesOf}
 use Rattle.session.specs.Output.{Session, begin, answers, outputOf}
-use Rattle.stream.specs.Text.{Comes, Closes}
-use Rattle.stream.specs.Laws.{Laws}
+use Rattle.session.specs.Memory.{Memory, memoryAfter}
+use Rattle.stream.specs.Text.{Comes, Closes, Leads, Settles}
+use Rattle.stream.specs.Laws.{InParts, joined, Laws}
 
 pub first : Comes begin [] [] [] begin []
 first = record { whole = λ rest. refl }
@@ -31,5 +32,36 @@ ended : (input text rest : List ℕ) → Closes begin [] input text → outputOf
 unfolding outputOf
 ended input text rest f = f .whole rest
 
+in-parts : (parts : List (List ℕ)) (s t : Session) (b x p : List ℕ) → InParts s b parts x t p → Comes s b (joined parts) x t p
+unfolding joined
+in-parts [] s t b x p (text, same, left) = rw (text, same, left) (record { whole = λ rest. refl })
+in-parts (part ∷ parts) s t b x p (u, more, y, z, f, r, e) = rw e (on s u t b part y more (joined parts) z p f (in-parts parts u t more z p r))
+
+-- ---- the tables
+
+pub leads : (s t u : Session) (b m o n p : List ℕ) (x y z : Memory) → Leads s b m x t o y → Leads t o n y u p z → Leads s b (m ++ n) x u p z
+leads s t u b m o n p x y z f g = record {
+  whole = λ rest. ap (λ (l : List ℕ). memoryAfter s x (linesOf (b ++ l))) (append-assoc m n rest) ∙ f .whole (n ++ rest) ∙ g .whole rest;
+}
+
+pub settles : (s t : Session) (b m o n : List ℕ) (x y z : Memory) → Leads s b m x t o y → Settles t o n y z → Settles s b (m ++ n) x z
+settles s t b m o n x y z f g = record {
+  whole = λ rest. ap (λ (l : List ℕ). memoryAfter s x (linesOf (b ++ l))) (append-assoc m n rest) ∙ f .whole (n ++ rest) ∙ g .whole rest;
+}
+
+memory-is : (input : List ℕ) (s : Session) (x y : Memory) → Leads begin [] input x s [] y → memoryAfter begin x (linesOf input) ≡ y
+unfolding memoryAfter linesOf
+memory-is input s x y f = ap (λ (l : List ℕ). memoryAfter begin x (linesOf l)) (sym (append-nil input)) ∙ f .whole []
+
 pub laws : Laws
-laws = record { first = first; on = on; closed = closed; all = all; ended = ended }
+laws = record {
+  first = first;
+  on = on;
+  closed = closed;
+  parts = λ parts text pending s f. all (joined parts) text pending s (in-parts parts begin s [] text pending f);
+  all = all;
+  ended = ended;
+  leads = leads;
+  settles = settles;
+  memory = memory-is;
+}

@@ -5,7 +5,7 @@ use native.Mathlib.Nat.{sub-zero}
 use mathlib.Core.Path.{_≡_, refl, sym, ap, _∙_, subst}
 use mathlib.Core.List.{List, [], _++_}
 use lib.ListN.{length, take}
-use borrow.Rule.Slice.PartMut.{midOf, putMid, mid-len, same-len-mid}
+use borrow.Rule.Slice.PartMut.{midOf, putMid, mid-len}
 use Rattle.graph.specs.Tables.{Slices}
 use Rattle.reader.specs.Columns.{Columns}
 use Rattle.model_graph.specs.Answers.{Wide}
@@ -14,7 +14,7 @@ use Rattle.session.specs.declared.Numbers.{Numbers}
 use Rattle.session.specs.declared.Told.{Told}
 use Rattle.session.specs.declared.Told.the-variants as told
 use Rattle.session.specs.Output.{Session, Answer, goes, ends, begin, answerLine}
-use Rattle.session.specs.Kept.{numbersOf, Sizes, Keeps, Kept, toldOf, textOf, Left, Tells, Answers}
+use Rattle.session.specs.Kept.{numbersOf, Sizes, Keeps, Kept, toldOf, textOf, columnsAfter, slicesAfter, KeptOn, Tells, Answers}
 use Rattle.session.proofs.Lines.{Same, sizes-same}
 use Rattle.stream.specs.declared.Place.{Place}
 use Rattle.stream.specs.declared.Fed.{Fed}
@@ -93,14 +93,16 @@ module _ (p : Place) (line : List ℕ) (long next : ℕ) (c : Columns) (g : Slic
     sizes = sizes;
     answer = λ s e k z. ap (fedBy p next) (tells s e k z .told) ∙ fed-told p next (answerLine s (take long line));
     text = λ s e k z. behind s e k z;
-    tables = λ s e k z. subst (λ (l : List ℕ). Left (answerLine s l) c′ g′) cut (a .tables s e k z);
+    columns = λ s e k z. subst (λ (l : List ℕ). c′ ≡ columnsAfter s l c) cut (a .columns s e k z);
+    slices = λ s e k z. subst (λ (l : List ℕ). g′ ≡ slicesAfter s l g) cut (a .slices s e k z);
+    keeps = λ s e k z. subst (λ (l : List ℕ). KeptOn (answerLine s l) c′ g′) cut (a .keeps s e k z);
   }
 
   fits-by : Kept (p .numbers) c g → p .filled + size r ≤ length out
   fits-by q =
       let s = q .session in
       let n : size r ≡ length (textOf (answerLine s (take long line))) = ap size (tells s (q .numbers) (q .keeps) (q .sizes) .told) ∙ size-told (answerLine s (take long line)) in
-      omega (arith, n, behind s (q .numbers) (q .keeps) (q .sizes) .fits, same-len-mid (p .filled) (length out - p .filled) out part same)
+      omega (arith, n, behind s (q .numbers) (q .keeps) (q .sizes) .fits)
 
   module _ (n : Numbers) (w : ℕ) (e : r ≡ told.On n w) where
     pub on-fits : Kept (p .numbers) c g → p .filled + w ≤ length out

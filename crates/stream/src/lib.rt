@@ -12,7 +12,7 @@ ghost use Rattle.reader.specs.Columns.{columns};
 ghost use Rattle.last_line.specs.Last.{refusalText};
 ghost use Rattle.session.specs.Kept.{Kept};
 ghost use Rattle.stream.specs.declared.Fed.the-variants as fed;
-ghost use Rattle.stream.specs.Fed.{startPlace, between, LineEnd, Appended, Whole, Standing, Feeds, Further};
+ghost use Rattle.stream.specs.Fed.{startPlace, between, LineEnd, Appended, Whole, Standing, Feeds, Further, Presses};
 
 // Where reading and writing stand.
 pub struct Place {
@@ -225,7 +225,7 @@ pub fn feed(
     out: &mut [u8],
 ) -> Fed
     requires { ⌜ Standing from (columns (now «probability_bits») (now «detector_counts») (now «observable_counts») (now «component_counts») (now «component_detectors») (now «component_observables») (now entries) (now row) (now truth)) (slices (now «edge_u») (now «edge_v») (now «edge_weight») (now «edge_obs») []) (now block) (now line) (now out) ⌝ }
-    ensures { λ r. ⌜ Feeds from (columns (now («probability_bits» .entry)) (now («detector_counts» .entry)) (now («observable_counts» .entry)) (now («component_counts» .entry)) (now («component_detectors» .entry)) (now («component_observables» .entry)) (now (entries .entry)) (now (row .entry)) (now (truth .entry))) (slices (now («edge_u» .entry)) (now («edge_v» .entry)) (now («edge_weight» .entry)) (now («edge_obs» .entry)) []) (now (block .entry)) (now (line .entry)) (now (out .entry)) r (columns (now («probability_bits» .exit)) (now («detector_counts» .exit)) (now («observable_counts» .exit)) (now («component_counts» .exit)) (now («component_detectors» .exit)) (now («component_observables» .exit)) (now (entries .exit)) (now (row .exit)) (now (truth .exit))) (slices (now («edge_u» .exit)) (now («edge_v» .exit)) (now («edge_weight» .exit)) (now («edge_obs» .exit)) []) (now (line .exit)) (now (out .exit)) ⌝ }
+    ensures { λ r. ⌜ Feeds from (columns (now («probability_bits» .entry)) (now («detector_counts» .entry)) (now («observable_counts» .entry)) (now («component_counts» .entry)) (now («component_detectors» .entry)) (now («component_observables» .entry)) (now (entries .entry)) (now (row .entry)) (now (truth .entry))) (slices (now («edge_u» .entry)) (now («edge_v» .entry)) (now («edge_weight» .entry)) (now («edge_obs» .entry)) []) (now (block .entry)) (now (line .entry)) (now (out .entry)) r (columns (now («probability_bits» .exit)) (now («detector_counts» .exit)) (now («observable_counts» .exit)) (now («component_counts» .exit)) (now («component_detectors» .exit)) (now («component_observables» .exit)) (now (entries .exit)) (now (row .exit)) (now (truth .exit))) (slices (now («edge_u» .exit)) (now («edge_v» .exit)) (now («edge_weight» .exit)) (now («edge_obs» .exit)) []) (now (line .exit)) (now (out .exit)) × Presses from r (now (block .entry)) (length (now (out .entry))) ⌝ }
 {
     let mut p = from;
     while p.taken < block.len() {

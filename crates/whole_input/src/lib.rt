@@ -1,75 +1,50 @@
 // Document 01, "Frames": an input that lies whole in memory, answered from its first byte to its end.
 use stream::Fed;
 use stream::Place;
+ghost use mathlib.Core.Path.{_≡_};
 ghost use mathlib.Core.List.{[]};
+ghost use Prim.Native.Nat.{_≤_};
+ghost use lib.ListN.{length};
 ghost use Rattle.graph.specs.Tables.{slices};
 ghost use Rattle.reader.specs.Columns.{columns};
-ghost use Rattle.whole_input.specs.Whole.{Long, Answered, Came};
+ghost use Rattle.whole_input.specs.Whole.{Answered, Long, Put, Reaches};
 
 pub enum Output {
     // so many bytes, all that the input is answered with
     Whole(usize),
-    // the output was too short to go on
+    // the output is shorter than that
     NoRoom,
 }
 
-// What is left to write at the end: 1,101 bytes at most.
-const LONGEST_END: usize = 1101;
-
-// The end of the input, behind what the output holds. Long for its parameters, one a line.
-fn end_at(
-    q: Place,
-    input: &[u8],
-    line: &[u8],
-    probability_bits: &mut [u64],
-    detector_counts: &mut [u8],
-    observable_counts: &mut [u8],
-    component_counts: &mut [u8],
-    component_detectors: &mut [u8],
-    component_observables: &mut [u8],
-    entries: &mut [u32],
-    row: &mut [u64],
-    truth: &mut [u64],
-    edge_u: &mut [u32],
-    edge_v: &mut [u32],
-    edge_weight: &mut [f64],
-    edge_obs: &mut [u64],
-    out: &mut [u8],
-) -> Output
-    requires { ⌜ Came q (columns (now «probability_bits») (now «detector_counts») (now «observable_counts») (now «component_counts») (now «component_detectors») (now «component_observables») (now entries) (now row) (now truth)) (slices (now «edge_u») (now «edge_v») (now «edge_weight») (now «edge_obs») []) (now input) (now line) (now out) ⌝ }
-    ensures { λ r. ⌜ Answered (now (input .entry)) r (now (out .exit)) ⌝ }
-{
-    let filled = q.filled;
-    if q.taken < input.len() {
-        return Output::NoRoom;
-    }
-    if out.len() - filled < LONGEST_END {
-        return Output::NoRoom;
-    }
-    let n = input_end::finish(
-        q.numbers,
-        q.used,
-        line,
-        probability_bits,
-        detector_counts,
-        observable_counts,
-        component_counts,
-        component_detectors,
-        component_observables,
-        entries,
-        row,
-        truth,
-        edge_u,
-        edge_v,
-        edge_weight,
-        edge_obs,
-        &mut out[filled..],
-    );
-    Output::Whole(filled + n)
+// How far the lines of an input lead.
+enum Came {
+    // all are taken: where the last one stands, and how many bytes of the output are filled
+    All { place: Place, at: usize },
+    Done(Output),
 }
 
-// The output of an input, at the front of a slice. Long for its parameters, one a line.
-pub fn answer_input(
+fn entries() -> [u32; 8192]
+    ensures { λ r. ⌜ 8192 ≡ length r ⌝ }
+{
+    [0; 8192]
+}
+
+// A text behind the first bytes of the output, as far as it fits.
+fn put(text: &[u8], at: usize, out: &mut [u8]) -> Output
+    requires { ⌜ at ≤ length (now out) ⌝ }
+    ensures { λ r. ⌜ Put (now (text .entry)) at r (now (out .entry)) (now (out .exit)) ⌝ }
+{
+    let room = out.len() - at;
+    if room < text.len() {
+        copies::copy_bytes(&text[0..room], out, at);
+        return Output::NoRoom;
+    }
+    copies::copy_bytes(text, out, at);
+    Output::Whole(at + text.len())
+}
+
+// Line after line. The answers to some of them are gathered, then put behind the others. Long for its parameters, one a line.
+fn feed_all(
     input: &[u8],
     line: &mut [u8],
     probability_bits: &mut [u64],
@@ -85,36 +60,18 @@ pub fn answer_input(
     edge_v: &mut [u32],
     edge_weight: &mut [f64],
     edge_obs: &mut [u64],
+    reply: &mut [u8],
     out: &mut [u8],
-) -> Output
-    requires { ⌜ Long (columns (now «probability_bits») (now «detector_counts») (now «observable_counts») (now «component_counts») (now «component_detectors») (now «component_observables») (now entries) (now row) (now truth)) (slices (now «edge_u») (now «edge_v») (now «edge_weight») (now «edge_obs») []) (now line) ⌝ }
-    ensures { λ r. ⌜ Answered (now (input .entry)) r (now (out .exit)) ⌝ }
+) -> Came
+    requires { ⌜ Long (columns (now «probability_bits») (now «detector_counts») (now «observable_counts») (now «component_counts») (now «component_detectors») (now «component_observables») (now entries) (now row) (now truth)) (slices (now «edge_u») (now «edge_v») (now «edge_weight») (now «edge_obs») []) (now line) (now reply) ⌝ }
+    ensures { λ r. ⌜ Reaches (now (input .entry)) r (columns (now («probability_bits» .exit)) (now («detector_counts» .exit)) (now («observable_counts» .exit)) (now («component_counts» .exit)) (now («component_detectors» .exit)) (now («component_observables» .exit)) (now (entries .exit)) (now (row .exit)) (now (truth .exit))) (slices (now («edge_u» .exit)) (now («edge_v» .exit)) (now («edge_weight» .exit)) (now («edge_obs» .exit)) []) (now (line .exit)) (now (reply .exit)) (now (out .entry)) (now (out .exit)) ⌝ }
 {
-    let p = stream::start();
-    let fed = stream::feed(
-        input,
-        p,
-        line,
-        probability_bits,
-        detector_counts,
-        observable_counts,
-        component_counts,
-        component_detectors,
-        component_observables,
-        entries,
-        row,
-        truth,
-        edge_u,
-        edge_v,
-        edge_weight,
-        edge_obs,
-        out,
-    );
-    match fed {
-        Fed::Ended(filled) => Output::Whole(filled),
-        Fed::On(q) => end_at(
-            q,
+    let mut p = stream::start();
+    let mut at = 0;
+    while p.taken < input.len() {
+        let fed = stream::feed(
             input,
+            p,
             line,
             probability_bits,
             detector_counts,
@@ -129,7 +86,137 @@ pub fn answer_input(
             edge_v,
             edge_weight,
             edge_obs,
-            out,
-        ),
+            reply,
+        );
+        match fed {
+            Fed::Ended(n) => return Came::Done(put(&reply[0..n], at, out)),
+            Fed::On(q) => {
+                let n = q.filled;
+                let told = put(&reply[0..n], at, out);
+                match told {
+                    Output::NoRoom => return Came::Done(Output::NoRoom),
+                    Output::Whole(next) => {
+                        let numbers = q.numbers;
+                        at = next;
+                        p = Place {
+                            numbers: numbers,
+                            used: q.used,
+                            taken: q.taken,
+                            filled: 0,
+                        };
+                    }
+                }
+            }
+        }
     }
+    Came::All { place: p, at: at }
+}
+
+// The lines, then the end. Long for its parameters, one a line.
+fn answer_over(
+    input: &[u8],
+    line: &mut [u8],
+    probability_bits: &mut [u64],
+    detector_counts: &mut [u8],
+    observable_counts: &mut [u8],
+    component_counts: &mut [u8],
+    component_detectors: &mut [u8],
+    component_observables: &mut [u8],
+    entries: &mut [u32],
+    row: &mut [u64],
+    truth: &mut [u64],
+    edge_u: &mut [u32],
+    edge_v: &mut [u32],
+    edge_weight: &mut [f64],
+    edge_obs: &mut [u64],
+    reply: &mut [u8],
+    out: &mut [u8],
+) -> Output
+    requires { ⌜ Long (columns (now «probability_bits») (now «detector_counts») (now «observable_counts») (now «component_counts») (now «component_detectors») (now «component_observables») (now entries) (now row) (now truth)) (slices (now «edge_u») (now «edge_v») (now «edge_weight») (now «edge_obs») []) (now line) (now reply) ⌝ }
+    ensures { λ r. ⌜ Answered (now (input .entry)) r (now (out .entry)) (now (out .exit)) ⌝ }
+{
+    let came = feed_all(
+        input,
+        line,
+        probability_bits,
+        detector_counts,
+        observable_counts,
+        component_counts,
+        component_detectors,
+        component_observables,
+        entries,
+        row,
+        truth,
+        edge_u,
+        edge_v,
+        edge_weight,
+        edge_obs,
+        reply,
+        out,
+    );
+    match came {
+        Came::Done(r) => r,
+        Came::All { place, at } => {
+            let n = input_end::finish(
+                place.numbers,
+                place.used,
+                line,
+                probability_bits,
+                detector_counts,
+                observable_counts,
+                component_counts,
+                component_detectors,
+                component_observables,
+                entries,
+                row,
+                truth,
+                edge_u,
+                edge_v,
+                edge_weight,
+                edge_obs,
+                reply,
+            );
+            put(&reply[0..n], at, out)
+        }
+    }
+}
+
+// What an input is answered with, at the front of the output, as far as it fits. Long for its tables, one a line.
+pub fn answer_input(input: &[u8], out: &mut [u8]) -> Output
+    ensures { λ r. ⌜ Answered (now (input .entry)) r (now (out .entry)) (now (out .exit)) ⌝ }
+{
+    let mut line = [0u8; 2062];
+    let mut probability_bits = [0u64; 1024];
+    let mut detector_counts = [0u8; 1024];
+    let mut observable_counts = [0u8; 1024];
+    let mut component_counts = [0u8; 1024];
+    let mut component_detectors = [0u8; 1024];
+    let mut component_observables = [0u8; 1024];
+    let mut entries = crate::entries();
+    let mut row = [0u64; 4];
+    let mut truth = [0u64; 2];
+    let mut edge_u = [0u32; 1024];
+    let mut edge_v = [0u32; 1024];
+    let mut edge_weight = [0.0f64; 1024];
+    let mut edge_obs = [0u64; 2048];
+    let mut reply = [0u8; 4096];
+    answer_over(
+        input,
+        &mut line,
+        &mut probability_bits,
+        &mut detector_counts,
+        &mut observable_counts,
+        &mut component_counts,
+        &mut component_detectors,
+        &mut component_observables,
+        &mut entries,
+        &mut row,
+        &mut truth,
+        &mut edge_u,
+        &mut edge_v,
+        &mut edge_weight,
+        &mut edge_obs,
+        &mut reply,
+        out,
+    )
 }

@@ -3,7 +3,7 @@ use mathlib.Core.Path.{_≡_, refl, sym, ap, _∙_}
 use native.Mathlib.Omega.{arith}
 use lib.ListN.{length}
 use Rattle.calls.specs.Call.{lentOf}
-use Rattle.marker.proofs.Marks.{part-long, checked-by, refused, rooms, found-here, ready, answers, untouched, in-table, written}
+use Rattle.marker.proofs.Marks.{part-long, checked-by, refused, rooms, ready, answers, untouched, in-table, written, marked}
 use Rattle.marker.proofs.Verdicts.{differs-not-pass, refused-not-pass}
 use borrow.Author.Needs.{needs}
 use Rattle.marker.proofs.mark.Statement.{statement}
@@ -32,7 +32,7 @@ returns c =
     let args = c .before .before .before .before .before .before .before .before .before .before .before .before .before .before .before .before .before .args in
     let long = c .before .before .before .before .long in
     let check-call = c .before .before .before .check-call in
-    let (a, r) = refused (lentOf (args .detectors) (args .observables) (args .edges) (args .edge-u .now) (args .edge-v .now) (args .edge-weight .now) (args .edge-obs .now)) (args .row .now) (args .marks .now) (args .wrong .now) (args .shot .now) (args .width) (c .before .checked .given .0 .0) (args .list .now) (sym (c .before .checked .given .1) ∙ (checked-by (lentOf (args .detectors) (args .observables) (args .edges) (args .edge-u .now) (args .edge-v .now) (args .edge-weight .now) (args .edge-obs .now)) (args .row .now) (args .marks .now) (args .wrong .now) (args .shot .now) (args .width) (long .result) (check-call .result) (long .ensures) (check-call .ensures))) in record { answers = a; rows = r; found = λ h. found-here (lentOf (args .detectors) (args .observables) (args .edges) (args .edge-u .now) (args .edge-v .now) (args .edge-weight .now) (args .edge-obs .now)) (args .row .now) (args .marks .now) (args .wrong .now) (args .shot .now) (args .width) h }
+    let (a, r) = refused (lentOf (args .detectors) (args .observables) (args .edges) (args .edge-u .now) (args .edge-v .now) (args .edge-weight .now) (args .edge-obs .now)) (args .row .now) (args .marks .now) (args .wrong .now) (args .shot .now) (args .width) (c .before .checked .given .0 .0) (args .list .now) (sym (c .before .checked .given .1) ∙ (checked-by (lentOf (args .detectors) (args .observables) (args .edges) (args .edge-u .now) (args .edge-v .now) (args .edge-weight .now) (args .edge-obs .now)) (args .row .now) (args .marks .now) (args .wrong .now) (args .shot .now) (args .width) (long .result) (check-call .result) (long .ensures) (check-call .ensures))) in marked (lentOf (args .detectors) (args .observables) (args .edges) (args .edge-u .now) (args .edge-v .now) (args .edge-weight .now) (args .edge-obs .now)) (args .row .now) (args .marks .now) (args .wrong .now) (args .shot .now) (args .width) (args .list .now) a r
 
 enum-told : tie.Need-enum-told
 enum-told c = search needs
@@ -124,15 +124,15 @@ same-length-6 c = search needs
 
 returns-2 : tie.Need-returns-2
 returns-2 c =
-    let enum-told2 = c .before .before .before .before .before .enum-told2 in
     let args = c .before .before .before .before .before .before .before .before .before .before .before .before .before .before .before .before .before .before .before .before .before .before .before .before .before .before .before .before .before .before .before .before .args in
+    let enum-told2 = c .before .before .before .before .before .enum-told2 in
     let long = c .before .before .before .before .before .before .before .before .before .before .before .before .before .before .before .before .before .before .before .long in
     let check-call = c .before .before .before .before .before .before .before .before .before .before .before .before .before .before .before .before .before .before .check-call in
     let enum-told = c .before .before .before .before .before .before .before .before .before .before .before .before .before .before .before .before .enum-told in
     let judge = c .before .before .before .before .before .before .before .before .before .before .before .judge in
     let words3 = c .before .before .before .before .words3 in
     let write-row = c .before .before .write-row in
-    record { answers = sym (enum-told2 .given .1) ∙ answers (lentOf (args .detectors) (args .observables) (args .edges) (args .edge-u .now) (args .edge-v .now) (args .edge-weight .now) (args .edge-obs .now)) (args .row .now) (args .marks .now) (args .wrong .now) (args .shot .now) (args .width) (sym (checked-by (lentOf (args .detectors) (args .observables) (args .edges) (args .edge-u .now) (args .edge-v .now) (args .edge-weight .now) (args .edge-obs .now)) (args .row .now) (args .marks .now) (args .wrong .now) (args .shot .now) (args .width) (long .result) (check-call .result) (long .ensures) (check-call .ensures)) ∙ enum-told .given .1) (args .list .now) (judge .result) (judge .ensures); rows = written (lentOf (args .detectors) (args .observables) (args .edges) (args .edge-u .now) (args .edge-v .now) (args .edge-weight .now) (args .edge-obs .now)) (args .row .now) (args .marks .now) (args .wrong .now) (args .shot .now) (args .width) (sym (checked-by (lentOf (args .detectors) (args .observables) (args .edges) (args .edge-u .now) (args .edge-v .now) (args .edge-weight .now) (args .edge-obs .now)) (args .row .now) (args .marks .now) (args .wrong .now) (args .shot .now) (args .width) (long .result) (check-call .result) (long .ensures) (check-call .ensures)) ∙ enum-told .given .1) (args .list .now) (judge .result) (judge .ensures) (enum-told2 .given .1) (words3 .result) _ (write-row .last .1 .1 .0) (words3 .ensures) (part-long (words3 .result) _ (args .row .now) (words3 .ensures) ((rooms (lentOf (args .detectors) (args .observables) (args .edges) (args .edge-u .now) (args .edge-v .now) (args .edge-weight .now) (args .edge-obs .now)) (args .row .now) (args .marks .now) (args .wrong .now) (args .shot .now) (args .width) (sym (checked-by (lentOf (args .detectors) (args .observables) (args .edges) (args .edge-u .now) (args .edge-v .now) (args .edge-weight .now) (args .edge-obs .now)) (args .row .now) (args .marks .now) (args .wrong .now) (args .shot .now) (args .width) (long .result) (check-call .result) (long .ensures) (check-call .ensures)) ∙ enum-told .given .1)) .0)) (write-row .ensures); found = λ h. found-here (lentOf (args .detectors) (args .observables) (args .edges) (args .edge-u .now) (args .edge-v .now) (args .edge-weight .now) (args .edge-obs .now)) (args .row .now) (args .marks .now) (args .wrong .now) (args .shot .now) (args .width) h }
+    marked (lentOf (args .detectors) (args .observables) (args .edges) (args .edge-u .now) (args .edge-v .now) (args .edge-weight .now) (args .edge-obs .now)) (args .row .now) (args .marks .now) (args .wrong .now) (args .shot .now) (args .width) (args .list .now) (sym (enum-told2 .given .1) ∙ answers (lentOf (args .detectors) (args .observables) (args .edges) (args .edge-u .now) (args .edge-v .now) (args .edge-weight .now) (args .edge-obs .now)) (args .row .now) (args .marks .now) (args .wrong .now) (args .shot .now) (args .width) (sym (checked-by (lentOf (args .detectors) (args .observables) (args .edges) (args .edge-u .now) (args .edge-v .now) (args .edge-weight .now) (args .edge-obs .now)) (args .row .now) (args .marks .now) (args .wrong .now) (args .shot .now) (args .width) (long .result) (check-call .result) (long .ensures) (check-call .ensures)) ∙ enum-told .given .1) (args .list .now) (judge .result) (judge .ensures)) (written (lentOf (args .detectors) (args .observables) (args .edges) (args .edge-u .now) (args .edge-v .now) (args .edge-weight .now) (args .edge-obs .now)) (args .row .now) (args .marks .now) (args .wrong .now) (args .shot .now) (args .width) (sym (checked-by (lentOf (args .detectors) (args .observables) (args .edges) (args .edge-u .now) (args .edge-v .now) (args .edge-weight .now) (args .edge-obs .now)) (args .row .now) (args .marks .now) (args .wrong .now) (args .shot .now) (args .width) (long .result) (check-call .result) (long .ensures) (check-call .ensures)) ∙ enum-told .given .1) (args .list .now) (judge .result) (judge .ensures) (enum-told2 .given .1) (words3 .result) _ (write-row .last .1 .1 .0) (words3 .ensures) (part-long (words3 .result) _ (args .row .now) (words3 .ensures) ((rooms (lentOf (args .detectors) (args .observables) (args .edges) (args .edge-u .now) (args .edge-v .now) (args .edge-weight .now) (args .edge-obs .now)) (args .row .now) (args .marks .now) (args .wrong .now) (args .shot .now) (args .width) (sym (checked-by (lentOf (args .detectors) (args .observables) (args .edges) (args .edge-u .now) (args .edge-v .now) (args .edge-weight .now) (args .edge-obs .now)) (args .row .now) (args .marks .now) (args .wrong .now) (args .shot .now) (args .width) (long .result) (check-call .result) (long .ensures) (check-call .ensures)) ∙ enum-told .given .1)) .0)) (write-row .ensures))
 
 same-length-7 : tie.Need-same-length-7
 same-length-7 c = search needs
@@ -150,7 +150,7 @@ returns-3 c =
     let check-call = c .before .before .before .before .before .before .before .before .before .before .before .before .before .before .check-call in
     let enum-told = c .before .before .before .before .before .before .before .before .before .before .before .before .enum-told in
     let judge = c .before .before .before .before .before .before .before .judge in
-    record { answers = sym (c .before .judged .given .1) ∙ answers (lentOf (args .detectors) (args .observables) (args .edges) (args .edge-u .now) (args .edge-v .now) (args .edge-weight .now) (args .edge-obs .now)) (args .row .now) (args .marks .now) (args .wrong .now) (args .shot .now) (args .width) (sym (checked-by (lentOf (args .detectors) (args .observables) (args .edges) (args .edge-u .now) (args .edge-v .now) (args .edge-weight .now) (args .edge-obs .now)) (args .row .now) (args .marks .now) (args .wrong .now) (args .shot .now) (args .width) (long .result) (check-call .result) (long .ensures) (check-call .ensures)) ∙ enum-told .given .1) (args .list .now) (judge .result) (judge .ensures); rows = untouched (lentOf (args .detectors) (args .observables) (args .edges) (args .edge-u .now) (args .edge-v .now) (args .edge-weight .now) (args .edge-obs .now)) (args .row .now) (args .marks .now) (args .wrong .now) (args .shot .now) (args .width) (sym (checked-by (lentOf (args .detectors) (args .observables) (args .edges) (args .edge-u .now) (args .edge-v .now) (args .edge-weight .now) (args .edge-obs .now)) (args .row .now) (args .marks .now) (args .wrong .now) (args .shot .now) (args .width) (long .result) (check-call .result) (long .ensures) (check-call .ensures)) ∙ enum-told .given .1) (args .list .now) (judge .result) (judge .ensures) (λ h. differs-not-pass _ (sym (c .before .judged .given .1) ∙ h)); found = λ h. found-here (lentOf (args .detectors) (args .observables) (args .edges) (args .edge-u .now) (args .edge-v .now) (args .edge-weight .now) (args .edge-obs .now)) (args .row .now) (args .marks .now) (args .wrong .now) (args .shot .now) (args .width) h }
+    marked (lentOf (args .detectors) (args .observables) (args .edges) (args .edge-u .now) (args .edge-v .now) (args .edge-weight .now) (args .edge-obs .now)) (args .row .now) (args .marks .now) (args .wrong .now) (args .shot .now) (args .width) (args .list .now) (sym (c .before .judged .given .1) ∙ answers (lentOf (args .detectors) (args .observables) (args .edges) (args .edge-u .now) (args .edge-v .now) (args .edge-weight .now) (args .edge-obs .now)) (args .row .now) (args .marks .now) (args .wrong .now) (args .shot .now) (args .width) (sym (checked-by (lentOf (args .detectors) (args .observables) (args .edges) (args .edge-u .now) (args .edge-v .now) (args .edge-weight .now) (args .edge-obs .now)) (args .row .now) (args .marks .now) (args .wrong .now) (args .shot .now) (args .width) (long .result) (check-call .result) (long .ensures) (check-call .ensures)) ∙ enum-told .given .1) (args .list .now) (judge .result) (judge .ensures)) (untouched (lentOf (args .detectors) (args .observables) (args .edges) (args .edge-u .now) (args .edge-v .now) (args .edge-weight .now) (args .edge-obs .now)) (args .row .now) (args .marks .now) (args .wrong .now) (args .shot .now) (args .width) (sym (checked-by (lentOf (args .detectors) (args .observables) (args .edges) (args .edge-u .now) (args .edge-v .now) (args .edge-weight .now) (args .edge-obs .now)) (args .row .now) (args .marks .now) (args .wrong .now) (args .shot .now) (args .width) (long .result) (check-call .result) (long .ensures) (check-call .ensures)) ∙ enum-told .given .1) (args .list .now) (judge .result) (judge .ensures) (λ h. differs-not-pass _ (sym (c .before .judged .given .1) ∙ h)))
 
 same-length-10 : tie.Need-same-length-10
 same-length-10 c = search needs
@@ -168,7 +168,7 @@ returns-4 c =
     let check-call = c .before .before .before .before .before .before .before .before .before .before .before .before .before .before .check-call in
     let enum-told = c .before .before .before .before .before .before .before .before .before .before .before .before .enum-told in
     let judge = c .before .before .before .before .before .before .before .judge in
-    record { answers = sym (c .before .judged2 .given .1) ∙ answers (lentOf (args .detectors) (args .observables) (args .edges) (args .edge-u .now) (args .edge-v .now) (args .edge-weight .now) (args .edge-obs .now)) (args .row .now) (args .marks .now) (args .wrong .now) (args .shot .now) (args .width) (sym (checked-by (lentOf (args .detectors) (args .observables) (args .edges) (args .edge-u .now) (args .edge-v .now) (args .edge-weight .now) (args .edge-obs .now)) (args .row .now) (args .marks .now) (args .wrong .now) (args .shot .now) (args .width) (long .result) (check-call .result) (long .ensures) (check-call .ensures)) ∙ enum-told .given .1) (args .list .now) (judge .result) (judge .ensures); rows = untouched (lentOf (args .detectors) (args .observables) (args .edges) (args .edge-u .now) (args .edge-v .now) (args .edge-weight .now) (args .edge-obs .now)) (args .row .now) (args .marks .now) (args .wrong .now) (args .shot .now) (args .width) (sym (checked-by (lentOf (args .detectors) (args .observables) (args .edges) (args .edge-u .now) (args .edge-v .now) (args .edge-weight .now) (args .edge-obs .now)) (args .row .now) (args .marks .now) (args .wrong .now) (args .shot .now) (args .width) (long .result) (check-call .result) (long .ensures) (check-call .ensures)) ∙ enum-told .given .1) (args .list .now) (judge .result) (judge .ensures) (λ h. refused-not-pass _ (sym (c .before .judged2 .given .1) ∙ h)); found = λ h. found-here (lentOf (args .detectors) (args .observables) (args .edges) (args .edge-u .now) (args .edge-v .now) (args .edge-weight .now) (args .edge-obs .now)) (args .row .now) (args .marks .now) (args .wrong .now) (args .shot .now) (args .width) h }
+    marked (lentOf (args .detectors) (args .observables) (args .edges) (args .edge-u .now) (args .edge-v .now) (args .edge-weight .now) (args .edge-obs .now)) (args .row .now) (args .marks .now) (args .wrong .now) (args .shot .now) (args .width) (args .list .now) (sym (c .before .judged2 .given .1) ∙ answers (lentOf (args .detectors) (args .observables) (args .edges) (args .edge-u .now) (args .edge-v .now) (args .edge-weight .now) (args .edge-obs .now)) (args .row .now) (args .marks .now) (args .wrong .now) (args .shot .now) (args .width) (sym (checked-by (lentOf (args .detectors) (args .observables) (args .edges) (args .edge-u .now) (args .edge-v .now) (args .edge-weight .now) (args .edge-obs .now)) (args .row .now) (args .marks .now) (args .wrong .now) (args .shot .now) (args .width) (long .result) (check-call .result) (long .ensures) (check-call .ensures)) ∙ enum-told .given .1) (args .list .now) (judge .result) (judge .ensures)) (untouched (lentOf (args .detectors) (args .observables) (args .edges) (args .edge-u .now) (args .edge-v .now) (args .edge-weight .now) (args .edge-obs .now)) (args .row .now) (args .marks .now) (args .wrong .now) (args .shot .now) (args .width) (sym (checked-by (lentOf (args .detectors) (args .observables) (args .edges) (args .edge-u .now) (args .edge-v .now) (args .edge-weight .now) (args .edge-obs .now)) (args .row .now) (args .marks .now) (args .wrong .now) (args .shot .now) (args .width) (long .result) (check-call .result) (long .ensures) (check-call .ensures)) ∙ enum-told .given .1) (args .list .now) (judge .result) (judge .ensures) (λ h. refused-not-pass _ (sym (c .before .judged2 .given .1) ∙ h)))
 
 pub mark-spec : {M : Type 1} → statement M
 mark-spec =

@@ -1,7 +1,7 @@
 -- `model_graph::model_graph`: decomposed, then compiled.
-use mathlib.Core.Path.{refl, sym, _∙_}
-use native.Mathlib.Omega.{arith}
-use Rattle.model_graph.proofs.Answers.{graph-refused, graph-compiled}
+use mathlib.Core.Path.{refl}
+use lib.Ieee.{ofBits}
+use Rattle.model_graph.proofs.Answers.{tables-held, refused-zero, graph-refused, graph-compiled}
 use borrow.Author.Needs.{needs}
 use Rattle.model_graph.proofs.model_graph.Statement.{statement}
 use Rattle.model_graph.proofs.model_graph.Tie as tie
@@ -31,10 +31,14 @@ slice-aggregate-decompose-read-7 : tie.Need-slice-aggregate-decompose-read-7
 slice-aggregate-decompose-read-7 c = search needs
 
 decompose-read-requires : tie.Need-decompose-read-requires
-decompose-read-requires c κs = search needs
+unfolding ofBits
+decompose-read-requires c κs = tables-held _ (c .before .before .before .before .before .before .before .entries .ensures)
 
 enum-known-decomposed : tie.Need-enum-known-decomposed
 enum-known-decomposed c = search needs
+
+refuse-requires : tie.Need-refuse-requires
+refuse-requires c κs = search needs
 
 enum-known-decomposed-2 : tie.Need-enum-known-decomposed-2
 enum-known-decomposed-2 c = search needs
@@ -63,9 +67,6 @@ slice-aggregate-compile-7 c = search needs
 compile-requires : tie.Need-compile-requires
 compile-requires c κs = search needs
 
-returns : tie.Need-returns
-returns c = λ ws ts. graph-refused (c .before .before .before .before .before .before .before .before .before .before .before .before .before .before .before .before .before .before .before .before .before .before .before .before .before .before .before .before .before .before .args .n) _ _ _ _ _ (rw (c .before .decomposed .given .1) at (c .before .before .before .before .before .before .before .before .before .before .decompose-read .ensures ws ts)) (record { probability = refl; detector-counts = refl; observable-counts = refl; component-counts = refl; component-detectors = refl; component-observables = refl; entries = sym (c .before .before .before .before .before .before .before .before .before .before .before .before .before .before .before .before .before .before .entries .ensures) })
-
 same-length : tie.Need-same-length
 same-length c = search needs
 
@@ -78,10 +79,28 @@ same-length-3 c = search needs
 same-length-4 : tie.Need-same-length-4
 same-length-4 c = search needs
 
+returns : tie.Need-returns
+returns c =
+    let args = c .before .before .before .before .before .before .before .before .before .before .before .before .before .before .before .before .before .before .before .before .before .before .before .before .before .before .before .before .before .before .before .before .before .before .before .before .before .before .before .before .before .before .before .args in
+    let refuse = c .before .before .before .before .before .before .before .before .refuse in
+    λ ws ts. graph-refused (args .n) _ _ _ _ _ _ (rw (c .before .before .before .before .before .before .before .before .before .before .before .before .before .before .decomposed .given .1) at (c .before .before .before .before .before .before .before .before .before .before .before .before .before .before .before .before .before .before .before .before .before .before .before .decompose-read .ensures ws ts)) (refused-zero (args .n .detectors) (args .n .observables) _ _ _ _ (refuse .ensures .0) (refuse .ensures .1) (refuse .ensures .2) (refuse .ensures .3) (refuse .ensures .4))
+
+same-length-5 : tie.Need-same-length-5
+same-length-5 c = search needs
+
+same-length-6 : tie.Need-same-length-6
+same-length-6 c = search needs
+
+same-length-7 : tie.Need-same-length-7
+same-length-7 c = search needs
+
+same-length-8 : tie.Need-same-length-8
+same-length-8 c = search needs
+
 returns-2 : tie.Need-returns-2
 returns-2 c =
     let decompose-read = c .before .before .before .before .before .before .before .before .before .before .before .before .before .before .before .before .before .before .before .before .before .before .before .before .before .before .before .before .before .before .decompose-read in
-    λ ws ts. graph-compiled (c .before .before .before .before .before .before .before .before .before .before .before .before .before .before .before .before .before .before .before .before .before .before .before .before .before .before .before .before .before .before .before .before .before .before .before .before .before .before .before .before .before .before .before .before .before .before .before .before .before .before .args .n) _ _ _ _ _ _ _ (decompose-read .kept .1 .1 .1 .1 .1 .1 .1 .1 .1 .0) (c .before .before .before .before .before .before .before .before .compile .ensures) (rw (c .before .before .before .before .before .before .before .before .before .before .before .before .before .before .before .before .before .before .before .before .before .decomposed2 .given .1) at (decompose-read .ensures ws ts)) (record { probability = refl; detector-counts = refl; observable-counts = refl; component-counts = refl; component-detectors = refl; component-observables = refl; entries = sym (c .before .before .before .before .before .before .before .before .before .before .before .before .before .before .before .before .before .before .before .before .before .before .before .before .before .before .before .before .before .before .before .before .before .before .before .before .before .before .entries .ensures) })
+    λ ws ts. graph-compiled (c .before .before .before .before .before .before .before .before .before .before .before .before .before .before .before .before .before .before .before .before .before .before .before .before .before .before .before .before .before .before .before .before .before .before .before .before .before .before .before .before .before .before .before .before .before .before .before .before .before .before .args .n) _ _ _ _ _ _ (decompose-read .kept .1 .1 .1 .1 .1 .1 .1 .1 .1 .0) (rw (c .before .before .before .before .before .before .before .before .before .before .before .before .before .before .before .before .before .before .before .before .before .decomposed2 .given .1) at (decompose-read .ensures ws ts)) (c .before .before .before .before .before .before .before .before .compile .ensures)
 
 pub model-graph-spec : {M : Type 1} → statement M
 model-graph-spec =
@@ -97,6 +116,7 @@ model-graph-spec =
     slice-aggregate-decompose-read-7
     decompose-read-requires
     enum-known-decomposed
+    refuse-requires
     enum-known-decomposed-2
     slice-aggregate-compile
     slice-aggregate-compile-2
@@ -106,9 +126,13 @@ model-graph-spec =
     slice-aggregate-compile-6
     slice-aggregate-compile-7
     compile-requires
-    returns
     same-length
     same-length-2
     same-length-3
     same-length-4
+    returns
+    same-length-5
+    same-length-6
+    same-length-7
+    same-length-8
     returns-2)

@@ -66,7 +66,7 @@ returns c =
     let args = c .before .before .before .before .before .before .before .before .before .before .before .before .before .before .before .before .before .before .before .before .before .before .before .before .before .before .before .before .before .before .before .before .before .before .before .before .before .before .before .before .before .before .before .before .before .before .before .before .before .before .before .before .args in
     let kind-of = c .before .before .before .before .before .before .before .before .before .before .before .before .before .before .before .before .before .before .before .before .before .before .before .before .before .before .before .before .before .before .before .before .before .before .before .before .kind-of in
     let read-line = c .before .before .before .before .before .before .before .before .before .before .before .before .before .before .before .before .before .before .before .before .before .before .before .before .before .read-line in
-    line-refused (args .line .now) (args .n) (columns (args .probability-bits .now) (args .detector-counts .now) (args .observable-counts .now) (args .component-counts .now) (args .component-detectors .now) (args .component-observables .now) (args .entries .now) (args .row .now) (args .truth .now)) (slices (args .edge-u .now) (args .edge-v .now) (args .edge-weight .now) (args .edge-obs .now) []) (kind-of .result) (kind-of .ensures) (read-line .result) (columns (read-line .last .1 .1 .0) (read-line .last .1 .1 .1 .0) (read-line .last .1 .1 .1 .1 .0) (read-line .last .1 .1 .1 .1 .1 .0) (read-line .last .1 .1 .1 .1 .1 .1 .0) (read-line .last .1 .1 .1 .1 .1 .1 .1 .0) (read-line .last .1 .1 .1 .1 .1 .1 .1 .1 .0) (read-line .last .1 .1 .1 .1 .1 .1 .1 .1 .1 .0) (read-line .last .1 .1 .1 .1 .1 .1 .1 .1 .1 .1 .0)) (read-line .ensures) _ (c .before .before .before .before .before .read .given .1) _ (slices (args .edge-u .now) (args .edge-v .now) (args .edge-weight .now) (args .edge-obs .now) []) (args .out .now) _ (c .before .before .refuse .ensures)
+    line-refused (args .line .now) (args .n) (columns (args .probability-bits .now) (args .detector-counts .now) (args .observable-counts .now) (args .component-counts .now) (args .component-detectors .now) (args .component-observables .now) (args .entries .now) (args .row .now) (args .truth .now)) (slices (args .edge-u .now) (args .edge-v .now) (args .edge-weight .now) (args .edge-obs .now) []) (kind-of .result) (kind-of .ensures) (read-line .result) (columns (read-line .last .1 .1 .0) (read-line .last .1 .1 .1 .0) (read-line .last .1 .1 .1 .1 .0) (read-line .last .1 .1 .1 .1 .1 .0) (read-line .last .1 .1 .1 .1 .1 .1 .0) (read-line .last .1 .1 .1 .1 .1 .1 .1 .0) (read-line .last .1 .1 .1 .1 .1 .1 .1 .1 .0) (read-line .last .1 .1 .1 .1 .1 .1 .1 .1 .1 .0) (read-line .last .1 .1 .1 .1 .1 .1 .1 .1 .1 .1 .0)) (read-line .ensures) _ (c .before .before .before .before .before .read .given .1) _ (args .out .now) _ (c .before .before .refuse .ensures)
 
 same-length-11 : tie.Need-same-length-11
 same-length-11 c = c .before .before .before .before .before .before .before .before .before .before .before .before .before .before .before .before .before .before .before .before .before .before .before .before .before .before .before .before .before .before .before .before .before .before .before .before .before .before .before .before .before .before .before .before .before .before .read-line .kept .1 .1 .0

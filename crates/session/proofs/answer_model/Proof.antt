@@ -45,7 +45,7 @@ returns : tie.Need-returns
 returns c =
     let args = c .before .before .before .before .before .before .before .before .before .before .before .before .before .before .before .before .before .before .before .before .before .before .before .before .before .before .before .before .before .before .before .before .args in
     let model-graph = c .before .before .before .before .before .before .before .before .before .before .before .before .before .before .before .model-graph in
-    model-refused (args .n) (args .state) (args .probability-bits .now) (args .detector-counts .now) (args .observable-counts .now) (args .component-counts .now) (args .component-detectors .now) (args .component-observables .now) (args .entries .now) (slices (args .edge-u .now) (args .edge-v .now) (args .edge-weight .now) (args .edge-obs .now) []) (model-graph .result) _ (model-graph .ensures) _ (args .out .now) _ _ (c .before .before .before .before .before .compiled .given .1) (c .before .before .refuse .ensures)
+    model-refused (args .n) (args .state) (args .probability-bits .now) (args .detector-counts .now) (args .observable-counts .now) (args .component-counts .now) (args .component-detectors .now) (args .component-observables .now) (args .entries .now) (slices (args .edge-u .now) (args .edge-v .now) (args .edge-weight .now) (args .edge-obs .now) []) (model-graph .result) _ (model-graph .ensures) _ (args .out .now) _ _ refl (c .before .before .before .before .before .compiled .given .1) (c .before .before .refuse .ensures)
 
 same-length-6 : tie.Need-same-length-6
 same-length-6 c = search needs
@@ -63,7 +63,7 @@ returns-2 : tie.Need-returns-2
 returns-2 c =
     let args = c .before .before .before .before .before .before .before .before .before .before .before .before .before .before .before .before .before .before .before .before .before .before .before .before .before .before .before .before .before .args in
     let model-graph = c .before .before .before .before .before .before .before .before .before .before .before .before .model-graph in
-    model-on (args .n) (args .state) (args .probability-bits .now) (args .detector-counts .now) (args .observable-counts .now) (args .component-counts .now) (args .component-detectors .now) (args .component-observables .now) (args .entries .now) (slices (args .edge-u .now) (args .edge-v .now) (args .edge-weight .now) (args .edge-obs .now) []) (model-graph .result) _ (model-graph .ensures) _ _ (args .out .now) (c .before .before .compiled2 .given .1) (model-graph .kept .1 .1 .1 .1 .1 .1 .1 .1 .0) (c .words-of .ensures)
+    model-on (args .n) (args .state) (args .probability-bits .now) (args .detector-counts .now) (args .observable-counts .now) (args .component-counts .now) (args .component-detectors .now) (args .component-observables .now) (args .entries .now) (slices (args .edge-u .now) (args .edge-v .now) (args .edge-weight .now) (args .edge-obs .now) []) (model-graph .result) _ (model-graph .ensures) _ _ (args .out .now) refl (c .before .before .compiled2 .given .1) (model-graph .kept .1 .1 .1 .1 .1 .1 .1 .1 .0) (c .words-of .ensures)
 
 pub answer-model-spec : {M : Type 1} → statement M
 answer-model-spec =

@@ -2,6 +2,7 @@
 use Prim.Native.Nat.{ℕ, _-_}
 use mathlib.Core.Path.{_≡_, refl, _∙_}
 use mathlib.Core.List.{[]}
+use mathlib.Core.Logic.{inl}
 use native.Mathlib.Omega.{arith}
 use lib.ListN.{length}
 use borrow.Author.Needs.{needs}
@@ -9,12 +10,12 @@ use Rattle.graph.specs.Tables.{slices}
 use Rattle.reader.specs.Columns.{columns}
 use Rattle.stream.specs.declared.Fed.{Fed}
 use Rattle.stream.specs.Fed.{Feeds, Further}
-use Rattle.stream.proofs.Places.{Going, going-first, going-standing, going-on, going-over}
+use Rattle.stream.proofs.Places.{Going, going-first, going-standing, going-on, going-over, Moved, moved-on, pressed-room, pressed-all, pressed-over}
 use Rattle.stream.proofs.feed.Statement.{statement}
 use Rattle.stream.proofs.feed.Tie as tie
 
 abbrev Inv-loop : tie.InvT-loop
-Inv-loop block line₀ probability-bits₀ detector-counts₀ observable-counts₀ component-counts₀ component-detectors₀ component-observables₀ entries₀ row₀ truth₀ edge-u₀ edge-v₀ edge-weight₀ edge-obs₀ out₀ p₀ line probability-bits detector-counts observable-counts component-counts component-detectors component-observables entries row truth edge-u edge-v edge-weight edge-obs out p = Going p₀ (columns probability-bits₀ detector-counts₀ observable-counts₀ component-counts₀ component-detectors₀ component-observables₀ entries₀ row₀ truth₀) (slices edge-u₀ edge-v₀ edge-weight₀ edge-obs₀ []) block line₀ out₀ p (columns probability-bits detector-counts observable-counts component-counts component-detectors component-observables entries row truth) (slices edge-u edge-v edge-weight edge-obs []) line out × (length line ≡ length line₀) × (length probability-bits ≡ length probability-bits₀) × (length detector-counts ≡ length detector-counts₀) × (length observable-counts ≡ length observable-counts₀) × (length component-counts ≡ length component-counts₀) × (length component-detectors ≡ length component-detectors₀) × (length component-observables ≡ length component-observables₀) × (length entries ≡ length entries₀) × (length row ≡ length row₀) × (length truth ≡ length truth₀) × (length edge-u ≡ length edge-u₀) × (length edge-v ≡ length edge-v₀) × (length edge-weight ≡ length edge-weight₀) × (length edge-obs ≡ length edge-obs₀) × (length out ≡ length out₀)
+Inv-loop block line₀ probability-bits₀ detector-counts₀ observable-counts₀ component-counts₀ component-detectors₀ component-observables₀ entries₀ row₀ truth₀ edge-u₀ edge-v₀ edge-weight₀ edge-obs₀ out₀ p₀ line probability-bits detector-counts observable-counts component-counts component-detectors component-observables entries row truth edge-u edge-v edge-weight edge-obs out p = Going p₀ (columns probability-bits₀ detector-counts₀ observable-counts₀ component-counts₀ component-detectors₀ component-observables₀ entries₀ row₀ truth₀) (slices edge-u₀ edge-v₀ edge-weight₀ edge-obs₀ []) block line₀ out₀ p (columns probability-bits detector-counts observable-counts component-counts component-detectors component-observables entries row truth) (slices edge-u edge-v edge-weight edge-obs []) line out × (length line ≡ length line₀) × (length probability-bits ≡ length probability-bits₀) × (length detector-counts ≡ length detector-counts₀) × (length observable-counts ≡ length observable-counts₀) × (length component-counts ≡ length component-counts₀) × (length component-detectors ≡ length component-detectors₀) × (length component-observables ≡ length component-observables₀) × (length entries ≡ length entries₀) × (length row ≡ length row₀) × (length truth ≡ length truth₀) × (length edge-u ≡ length edge-u₀) × (length edge-v ≡ length edge-v₀) × (length edge-weight ≡ length edge-weight₀) × (length edge-obs ≡ length edge-obs₀) × (length out ≡ length out₀) × Moved p₀ p
 
 abbrev μ-loop : tie.MeasureT-loop
 μ-loop block line₀ probability-bits₀ detector-counts₀ observable-counts₀ component-counts₀ component-detectors₀ component-observables₀ entries₀ row₀ truth₀ edge-u₀ edge-v₀ edge-weight₀ edge-obs₀ out₀ p₀ line probability-bits detector-counts observable-counts component-counts component-detectors component-observables entries row truth edge-u edge-v edge-weight edge-obs out p = length block - p .taken
@@ -22,7 +23,7 @@ abbrev μ-loop : tie.MeasureT-loop
 loop-holds : tie.Need-loop-holds Inv-loop μ-loop
 loop-holds c =
     let args = c .before .before .before .before .before .before .before .before .before .before .before .before .before .before .before .before .args in
-    (going-first (args .from) (columns (args .probability-bits .now) (args .detector-counts .now) (args .observable-counts .now) (args .component-counts .now) (args .component-detectors .now) (args .component-observables .now) (args .entries .now) (args .row .now) (args .truth .now)) (slices (args .edge-u .now) (args .edge-v .now) (args .edge-weight .now) (args .edge-obs .now) []) (args .block .now) (args .line .now) (args .out .now), refl, refl, refl, refl, refl, refl, refl, refl, refl, refl, refl, refl, refl, refl, refl)
+    (going-first (args .from) (columns (args .probability-bits .now) (args .detector-counts .now) (args .observable-counts .now) (args .component-counts .now) (args .component-detectors .now) (args .component-observables .now) (args .entries .now) (args .row .now) (args .truth .now)) (slices (args .edge-u .now) (args .edge-v .now) (args .edge-weight .now) (args .edge-obs .now) []) (args .block .now) (args .line .now) (args .out .now), refl, refl, refl, refl, refl, refl, refl, refl, refl, refl, refl, refl, refl, refl, refl, inl refl)
 
 sub-room : tie.Need-sub-room Inv-loop μ-loop
 sub-room c =
@@ -77,7 +78,9 @@ same-length-15 : tie.Need-same-length-15 Inv-loop μ-loop
 same-length-15 c = c .before .before .before .before .loop .inv .15
 
 returns : tie.Need-returns Inv-loop μ-loop
-returns c = c .before .before .before .before .loop .inv .0
+returns c =
+    let st = going-standing (c .before .before .before .before .before .before .before .before .before .before .before .before .before .before .before .before .before .before .before .before .before .args .from) (columns (c .before .before .before .before .before .before .before .before .before .before .before .before .before .before .before .before .before .before .before .before .before .args .probability-bits .now) (c .before .before .before .before .before .before .before .before .before .before .before .before .before .before .before .before .before .before .before .before .before .args .detector-counts .now) (c .before .before .before .before .before .before .before .before .before .before .before .before .before .before .before .before .before .before .before .before .before .args .observable-counts .now) (c .before .before .before .before .before .before .before .before .before .before .before .before .before .before .before .before .before .before .before .before .before .args .component-counts .now) (c .before .before .before .before .before .before .before .before .before .before .before .before .before .before .before .before .before .before .before .before .before .args .component-detectors .now) (c .before .before .before .before .before .before .before .before .before .before .before .before .before .before .before .before .before .before .before .before .before .args .component-observables .now) (c .before .before .before .before .before .before .before .before .before .before .before .before .before .before .before .before .before .before .before .before .before .args .entries .now) (c .before .before .before .before .before .before .before .before .before .before .before .before .before .before .before .before .before .before .before .before .before .args .row .now) (c .before .before .before .before .before .before .before .before .before .before .before .before .before .before .before .before .before .before .before .before .before .args .truth .now)) (slices (c .before .before .before .before .before .before .before .before .before .before .before .before .before .before .before .before .before .before .before .before .before .args .edge-u .now) (c .before .before .before .before .before .before .before .before .before .before .before .before .before .before .before .before .before .before .before .before .before .args .edge-v .now) (c .before .before .before .before .before .before .before .before .before .before .before .before .before .before .before .before .before .before .before .before .before .args .edge-weight .now) (c .before .before .before .before .before .before .before .before .before .before .before .before .before .before .before .before .before .before .before .before .before .args .edge-obs .now) []) (c .before .before .before .before .before .before .before .before .before .before .before .before .before .before .before .before .before .before .before .before .before .args .block .now) (c .before .before .before .before .before .before .before .before .before .before .before .before .before .before .before .before .before .before .before .before .before .args .line .now) (c .before .before .before .before .before .before .before .before .before .before .before .before .before .before .before .before .before .before .before .before .before .args .out .now) (c .before .before .before .before .loop .p) (columns (c .before .before .before .before .loop .probability-bits) (c .before .before .before .before .loop .detector-counts) (c .before .before .before .before .loop .observable-counts) (c .before .before .before .before .loop .component-counts) (c .before .before .before .before .loop .component-detectors) (c .before .before .before .before .loop .component-observables) (c .before .before .before .before .loop .entries) (c .before .before .before .before .loop .row) (c .before .before .before .before .loop .truth)) (slices (c .before .before .before .before .loop .edge-u) (c .before .before .before .before .loop .edge-v) (c .before .before .before .before .loop .edge-weight) (c .before .before .before .before .loop .edge-obs) []) (c .before .before .before .before .loop .line) (c .before .before .before .before .loop .out) (c .before .before .before .before .loop .inv .0) (c .before .before .before .before .before .before .before .before .before .before .before .before .before .before .before .before .before .before .before .before .before .pre) in
+    (c .before .before .before .before .loop .inv .0, pressed-room (c .before .before .before .before .before .before .before .before .before .before .before .before .before .before .before .before .before .before .before .before .before .args .from) (c .before .before .before .before .loop .p) (c .before .before .before .before .before .before .before .before .before .before .before .before .before .before .before .before .before .before .before .before .before .args .block .now) (length (c .before .before .before .before .before .before .before .before .before .before .before .before .before .before .before .before .before .before .before .before .before .args .out .now)) (c .before .before .before .before .loop .inv .16) (omega (arith, c .if2 .taken, c .before .before .before .before .loop .inv .15, st .at .placed .filled)))
 
 feed-line-requires : tie.Need-feed-line-requires Inv-loop μ-loop
 feed-line-requires c κs =
@@ -137,20 +140,20 @@ returns-2 c =
     let args = c .before .before .before .before .before .before .before .before .before .before .before .before .before .before .before .before .before .before .before .before .before .before .before .before .before .before .before .before .before .before .before .before .before .before .before .before .before .before .before .before .before .before .before .before .before .before .before .before .before .before .before .before .before .before .before .before .before .before .before .before .before .before .before .before .before .before .before .before .before .before .args in
     let loop = c .before .before .before .before .before .before .before .before .before .before .before .before .before .before .before .before .before .before .before .before .before .before .before .before .before .before .before .before .before .before .before .before .before .before .before .before .before .before .before .before .before .before .before .before .before .before .before .before .before .before .before .before .before .loop in
     let feed-line = c .before .before .before .before .before .before .before .before .before .before .before .before .before .before .before .before .before .before .before .before .before .before .before .before .before .before .before .before .before .before .before .before .before .feed-line in
-    going-over (args .from) (columns (args .probability-bits .now) (args .detector-counts .now) (args .observable-counts .now) (args .component-counts .now) (args .component-detectors .now) (args .component-observables .now) (args .entries .now) (args .row .now) (args .truth .now)) (slices (args .edge-u .now) (args .edge-v .now) (args .edge-weight .now) (args .edge-obs .now) []) (args .block .now) (args .line .now) (args .out .now) (loop .p) (columns (loop .probability-bits) (loop .detector-counts) (loop .observable-counts) (loop .component-counts) (loop .component-detectors) (loop .component-observables) (loop .entries) (loop .row) (loop .truth)) (slices (loop .edge-u) (loop .edge-v) (loop .edge-weight) (loop .edge-obs) []) (loop .line) (loop .out) (loop .inv .0) _ (columns (feed-line .last .1 .1 .1 .0) (feed-line .last .1 .1 .1 .1 .0) (feed-line .last .1 .1 .1 .1 .1 .0) (feed-line .last .1 .1 .1 .1 .1 .1 .0) (feed-line .last .1 .1 .1 .1 .1 .1 .1 .0) (feed-line .last .1 .1 .1 .1 .1 .1 .1 .1 .0) (feed-line .last .1 .1 .1 .1 .1 .1 .1 .1 .1 .0) (feed-line .last .1 .1 .1 .1 .1 .1 .1 .1 .1 .1 .0) (feed-line .last .1 .1 .1 .1 .1 .1 .1 .1 .1 .1 .1 .0)) (slices (feed-line .last .1 .1 .1 .1 .1 .1 .1 .1 .1 .1 .1 .1 .0) (feed-line .last .1 .1 .1 .1 .1 .1 .1 .1 .1 .1 .1 .1 .1 .0) (feed-line .last .1 .1 .1 .1 .1 .1 .1 .1 .1 .1 .1 .1 .1 .1 .0) (feed-line .last .1 .1 .1 .1 .1 .1 .1 .1 .1 .1 .1 .1 .1 .1 .1 .0) []) (feed-line .last .1 .1 .0) (feed-line .last .1 .1 .1 .1 .1 .1 .1 .1 .1 .1 .1 .1 .1 .1 .1 .1 .0) (rw (c .before .fed .given .1) at (feed-line .ensures .0))
+    (going-over (args .from) (columns (args .probability-bits .now) (args .detector-counts .now) (args .observable-counts .now) (args .component-counts .now) (args .component-detectors .now) (args .component-observables .now) (args .entries .now) (args .row .now) (args .truth .now)) (slices (args .edge-u .now) (args .edge-v .now) (args .edge-weight .now) (args .edge-obs .now) []) (args .block .now) (args .line .now) (args .out .now) (loop .p) (columns (loop .probability-bits) (loop .detector-counts) (loop .observable-counts) (loop .component-counts) (loop .component-detectors) (loop .component-observables) (loop .entries) (loop .row) (loop .truth)) (slices (loop .edge-u) (loop .edge-v) (loop .edge-weight) (loop .edge-obs) []) (loop .line) (loop .out) (loop .inv .0) _ (columns (feed-line .last .1 .1 .1 .0) (feed-line .last .1 .1 .1 .1 .0) (feed-line .last .1 .1 .1 .1 .1 .0) (feed-line .last .1 .1 .1 .1 .1 .1 .0) (feed-line .last .1 .1 .1 .1 .1 .1 .1 .0) (feed-line .last .1 .1 .1 .1 .1 .1 .1 .1 .0) (feed-line .last .1 .1 .1 .1 .1 .1 .1 .1 .1 .0) (feed-line .last .1 .1 .1 .1 .1 .1 .1 .1 .1 .1 .0) (feed-line .last .1 .1 .1 .1 .1 .1 .1 .1 .1 .1 .1 .0)) (slices (feed-line .last .1 .1 .1 .1 .1 .1 .1 .1 .1 .1 .1 .1 .0) (feed-line .last .1 .1 .1 .1 .1 .1 .1 .1 .1 .1 .1 .1 .1 .0) (feed-line .last .1 .1 .1 .1 .1 .1 .1 .1 .1 .1 .1 .1 .1 .1 .0) (feed-line .last .1 .1 .1 .1 .1 .1 .1 .1 .1 .1 .1 .1 .1 .1 .1 .0) []) (feed-line .last .1 .1 .0) (feed-line .last .1 .1 .1 .1 .1 .1 .1 .1 .1 .1 .1 .1 .1 .1 .1 .1 .0) (rw (c .before .fed .given .1) at (feed-line .ensures .0)), pressed-over (args .from) _ (args .block .now) (length (args .out .now)))
 
 enum-known-fed-2 : tie.Need-enum-known-fed-2 Inv-loop μ-loop
 enum-known-fed-2 c = search needs
 
 loop-less : tie.Need-loop-less Inv-loop μ-loop
-loop-less c = omega (arith, c .before .before .before .before .before .before .before .before .before .before .before .before .before .before .before .before .before .before .before .before .before .before .before .before .before .before .before .before .before .before .before .before .before .before .before .before .before .before .before .before .before .before .before .before .before .before .before .before .before .before .before .if1 .taken, rw (c .before .fed2 .given .1) at (c .before .before .before .before .before .before .before .before .before .before .before .before .before .before .before .before .before .before .before .before .before .before .before .before .before .before .before .before .before .before .before .before .before .feed-line .ensures .1))
+loop-less c = omega (arith, c .before .before .before .before .before .before .before .before .before .before .before .before .before .before .before .before .before .before .before .before .before .before .before .before .before .before .before .before .before .before .before .before .before .before .before .before .before .before .before .before .before .before .before .before .before .before .before .before .before .before .before .if1 .taken, c .before .before .before .before .before .before .before .before .before .before .before .before .before .before .before .before .before .before .before .before .before .before .before .before .before .before .before .before .before .before .before .before .before .feed-line .ensures .1 _ (c .before .fed2 .given .1))
 
 loop-again : tie.Need-loop-again Inv-loop μ-loop
 loop-again c =
     let args = c .before .before .before .before .before .before .before .before .before .before .before .before .before .before .before .before .before .before .before .before .before .before .before .before .before .before .before .before .before .before .before .before .before .before .before .before .before .before .before .before .before .before .before .before .before .before .before .before .before .before .before .before .before .before .before .before .before .before .before .before .before .before .before .before .before .before .before .before .before .before .args in
     let loop = c .before .before .before .before .before .before .before .before .before .before .before .before .before .before .before .before .before .before .before .before .before .before .before .before .before .before .before .before .before .before .before .before .before .before .before .before .before .before .before .before .before .before .before .before .before .before .before .before .before .before .before .before .before .loop in
     let feed-line = c .before .before .before .before .before .before .before .before .before .before .before .before .before .before .before .before .before .before .before .before .before .before .before .before .before .before .before .before .before .before .before .before .before .feed-line in
-    (going-on (args .from) (columns (args .probability-bits .now) (args .detector-counts .now) (args .observable-counts .now) (args .component-counts .now) (args .component-detectors .now) (args .component-observables .now) (args .entries .now) (args .row .now) (args .truth .now)) (slices (args .edge-u .now) (args .edge-v .now) (args .edge-weight .now) (args .edge-obs .now) []) (args .block .now) (args .line .now) (args .out .now) (loop .p) (columns (loop .probability-bits) (loop .detector-counts) (loop .observable-counts) (loop .component-counts) (loop .component-detectors) (loop .component-observables) (loop .entries) (loop .row) (loop .truth)) (slices (loop .edge-u) (loop .edge-v) (loop .edge-weight) (loop .edge-obs) []) (loop .line) (loop .out) (loop .inv .0) _ (columns (feed-line .last .1 .1 .1 .0) (feed-line .last .1 .1 .1 .1 .0) (feed-line .last .1 .1 .1 .1 .1 .0) (feed-line .last .1 .1 .1 .1 .1 .1 .0) (feed-line .last .1 .1 .1 .1 .1 .1 .1 .0) (feed-line .last .1 .1 .1 .1 .1 .1 .1 .1 .0) (feed-line .last .1 .1 .1 .1 .1 .1 .1 .1 .1 .0) (feed-line .last .1 .1 .1 .1 .1 .1 .1 .1 .1 .1 .0) (feed-line .last .1 .1 .1 .1 .1 .1 .1 .1 .1 .1 .1 .0)) (slices (feed-line .last .1 .1 .1 .1 .1 .1 .1 .1 .1 .1 .1 .1 .0) (feed-line .last .1 .1 .1 .1 .1 .1 .1 .1 .1 .1 .1 .1 .1 .0) (feed-line .last .1 .1 .1 .1 .1 .1 .1 .1 .1 .1 .1 .1 .1 .1 .0) (feed-line .last .1 .1 .1 .1 .1 .1 .1 .1 .1 .1 .1 .1 .1 .1 .1 .0) []) (feed-line .last .1 .1 .0) (feed-line .last .1 .1 .1 .1 .1 .1 .1 .1 .1 .1 .1 .1 .1 .1 .1 .1 .0) (rw (c .before .fed2 .given .1) at (feed-line .ensures .0)), feed-line .kept .1 .1 .0 ∙ loop .inv .1, feed-line .kept .1 .1 .1 .0 ∙ loop .inv .2, feed-line .kept .1 .1 .1 .1 .0 ∙ loop .inv .3, feed-line .kept .1 .1 .1 .1 .1 .0 ∙ loop .inv .4, feed-line .kept .1 .1 .1 .1 .1 .1 .0 ∙ loop .inv .5, feed-line .kept .1 .1 .1 .1 .1 .1 .1 .0 ∙ loop .inv .6, feed-line .kept .1 .1 .1 .1 .1 .1 .1 .1 .0 ∙ loop .inv .7, feed-line .kept .1 .1 .1 .1 .1 .1 .1 .1 .1 .0 ∙ loop .inv .8, feed-line .kept .1 .1 .1 .1 .1 .1 .1 .1 .1 .1 .0 ∙ loop .inv .9, feed-line .kept .1 .1 .1 .1 .1 .1 .1 .1 .1 .1 .1 .0 ∙ loop .inv .10, feed-line .kept .1 .1 .1 .1 .1 .1 .1 .1 .1 .1 .1 .1 .0 ∙ loop .inv .11, feed-line .kept .1 .1 .1 .1 .1 .1 .1 .1 .1 .1 .1 .1 .1 .0 ∙ loop .inv .12, feed-line .kept .1 .1 .1 .1 .1 .1 .1 .1 .1 .1 .1 .1 .1 .1 .0 ∙ loop .inv .13, feed-line .kept .1 .1 .1 .1 .1 .1 .1 .1 .1 .1 .1 .1 .1 .1 .1 .0 ∙ loop .inv .14, feed-line .kept .1 .1 .1 .1 .1 .1 .1 .1 .1 .1 .1 .1 .1 .1 .1 .1 .0 ∙ loop .inv .15)
+    (going-on (args .from) (columns (args .probability-bits .now) (args .detector-counts .now) (args .observable-counts .now) (args .component-counts .now) (args .component-detectors .now) (args .component-observables .now) (args .entries .now) (args .row .now) (args .truth .now)) (slices (args .edge-u .now) (args .edge-v .now) (args .edge-weight .now) (args .edge-obs .now) []) (args .block .now) (args .line .now) (args .out .now) (loop .p) (columns (loop .probability-bits) (loop .detector-counts) (loop .observable-counts) (loop .component-counts) (loop .component-detectors) (loop .component-observables) (loop .entries) (loop .row) (loop .truth)) (slices (loop .edge-u) (loop .edge-v) (loop .edge-weight) (loop .edge-obs) []) (loop .line) (loop .out) (loop .inv .0) _ (columns (feed-line .last .1 .1 .1 .0) (feed-line .last .1 .1 .1 .1 .0) (feed-line .last .1 .1 .1 .1 .1 .0) (feed-line .last .1 .1 .1 .1 .1 .1 .0) (feed-line .last .1 .1 .1 .1 .1 .1 .1 .0) (feed-line .last .1 .1 .1 .1 .1 .1 .1 .1 .0) (feed-line .last .1 .1 .1 .1 .1 .1 .1 .1 .1 .0) (feed-line .last .1 .1 .1 .1 .1 .1 .1 .1 .1 .1 .0) (feed-line .last .1 .1 .1 .1 .1 .1 .1 .1 .1 .1 .1 .0)) (slices (feed-line .last .1 .1 .1 .1 .1 .1 .1 .1 .1 .1 .1 .1 .0) (feed-line .last .1 .1 .1 .1 .1 .1 .1 .1 .1 .1 .1 .1 .1 .0) (feed-line .last .1 .1 .1 .1 .1 .1 .1 .1 .1 .1 .1 .1 .1 .1 .0) (feed-line .last .1 .1 .1 .1 .1 .1 .1 .1 .1 .1 .1 .1 .1 .1 .1 .0) []) (feed-line .last .1 .1 .0) (feed-line .last .1 .1 .1 .1 .1 .1 .1 .1 .1 .1 .1 .1 .1 .1 .1 .1 .0) (rw (c .before .fed2 .given .1) at (feed-line .ensures .0)), feed-line .kept .1 .1 .0 ∙ loop .inv .1, feed-line .kept .1 .1 .1 .0 ∙ loop .inv .2, feed-line .kept .1 .1 .1 .1 .0 ∙ loop .inv .3, feed-line .kept .1 .1 .1 .1 .1 .0 ∙ loop .inv .4, feed-line .kept .1 .1 .1 .1 .1 .1 .0 ∙ loop .inv .5, feed-line .kept .1 .1 .1 .1 .1 .1 .1 .0 ∙ loop .inv .6, feed-line .kept .1 .1 .1 .1 .1 .1 .1 .1 .0 ∙ loop .inv .7, feed-line .kept .1 .1 .1 .1 .1 .1 .1 .1 .1 .0 ∙ loop .inv .8, feed-line .kept .1 .1 .1 .1 .1 .1 .1 .1 .1 .1 .0 ∙ loop .inv .9, feed-line .kept .1 .1 .1 .1 .1 .1 .1 .1 .1 .1 .1 .0 ∙ loop .inv .10, feed-line .kept .1 .1 .1 .1 .1 .1 .1 .1 .1 .1 .1 .1 .0 ∙ loop .inv .11, feed-line .kept .1 .1 .1 .1 .1 .1 .1 .1 .1 .1 .1 .1 .1 .0 ∙ loop .inv .12, feed-line .kept .1 .1 .1 .1 .1 .1 .1 .1 .1 .1 .1 .1 .1 .1 .0 ∙ loop .inv .13, feed-line .kept .1 .1 .1 .1 .1 .1 .1 .1 .1 .1 .1 .1 .1 .1 .1 .0 ∙ loop .inv .14, feed-line .kept .1 .1 .1 .1 .1 .1 .1 .1 .1 .1 .1 .1 .1 .1 .1 .1 .0 ∙ loop .inv .15, moved-on (args .from) (loop .p) _ (loop .inv .16) (feed-line .ensures .1 _ (c .before .fed2 .given .1)))
 
 same-length-31 : tie.Need-same-length-31 Inv-loop μ-loop
 same-length-31 c = c .before .before .loop .inv .1
@@ -198,7 +201,11 @@ same-length-45 : tie.Need-same-length-45 Inv-loop μ-loop
 same-length-45 c = c .before .before .loop .inv .15
 
 returns-3 : tie.Need-returns-3 Inv-loop μ-loop
-returns-3 c = c .before .before .loop .inv .0
+returns-3 c =
+    let args = c .before .before .before .before .before .before .before .before .before .before .before .before .before .before .before .before .before .before .before .args in
+    let loop = c .before .before .loop in
+    let st = going-standing (args .from) (columns (args .probability-bits .now) (args .detector-counts .now) (args .observable-counts .now) (args .component-counts .now) (args .component-detectors .now) (args .component-observables .now) (args .entries .now) (args .row .now) (args .truth .now)) (slices (args .edge-u .now) (args .edge-v .now) (args .edge-weight .now) (args .edge-obs .now) []) (args .block .now) (args .line .now) (args .out .now) (loop .p) (columns (loop .probability-bits) (loop .detector-counts) (loop .observable-counts) (loop .component-counts) (loop .component-detectors) (loop .component-observables) (loop .entries) (loop .row) (loop .truth)) (slices (loop .edge-u) (loop .edge-v) (loop .edge-weight) (loop .edge-obs) []) (loop .line) (loop .out) (loop .inv .0) (c .before .before .before .before .before .before .before .before .before .before .before .before .before .before .before .before .before .before .before .pre) in
+    (loop .inv .0, pressed-all (args .from) (loop .p) (args .block .now) (length (args .out .now)) (st .at .placed .taken) (c .if1 .left))
 
 pub feed-spec : {M : Type 1} → statement M
 feed-spec =

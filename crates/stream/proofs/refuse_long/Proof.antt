@@ -3,7 +3,6 @@ use Prim.Native.Nat.{ℕ, _+_, _-_}
 use mathlib.Core.Path.{ap}
 use native.Mathlib.Omega.{arith}
 use lib.ListN.{length}
-use borrow.Rule.Slice.PartMut.{same-len-mid}
 use Rattle.codes.specs.declared.Refusal.the-variants.{Frame}
 use Rattle.last_line.specs.Last.{refusalText}
 use Rattle.stream.specs.declared.Fed.the-variants as fed
@@ -25,7 +24,7 @@ write-refusal-requires : tie.Need-write-refusal-requires
 write-refusal-requires c κs = search needs
 
 add-t6 : tie.Need-add-t6
-add-t6 c = omega (arith, (appended (c .before .before .before .before .before .args .filled) (refusalText Frame) (c .before .before .before .before .before .args .out .now) (c .before .before .write-refusal .last .1 .0) (omega (arith, c .before .before .before .before .before .pre)) (c .before .before .write-refusal .ensures .1) (c .before .before .write-refusal .kept .1 .0)) .fits, same-len-mid {X = ℕ} (c .before .before .before .before .before .args .filled) (length (c .before .before .before .before .before .args .out .now) - c .before .before .before .before .before .args .filled) (c .before .before .before .before .before .args .out .now) (c .before .before .write-refusal .last .1 .0) (c .before .before .write-refusal .kept .1 .0), c .before .before .write-refusal .ensures .0, c .before .before .before .before .before .good .0)
+add-t6 c = omega (arith, (appended (c .before .before .before .before .before .args .filled) (refusalText Frame) (c .before .before .before .before .before .args .out .now) (c .before .before .write-refusal .last .1 .0) (omega (arith, c .before .before .before .before .before .pre)) (c .before .before .write-refusal .ensures .1) (c .before .before .write-refusal .kept .1 .0)) .fits, c .before .before .write-refusal .ensures .0, c .before .before .before .before .before .good .0)
 
 same-length : tie.Need-same-length
 same-length c = search needs
