@@ -1,8 +1,9 @@
 /* Pavrenni: a verified union-find decoder for quantum error correction. The calls of the static library libserver.a.
  *
- * A slice crosses as a pointer and its length in entries. A call asks one thing of its caller: that each pointer is
- * aligned, is not null (of a slice of length 0 too), is valid for its length, and that what it writes overlaps nothing
- * else that is lent. Counts, lengths, tables and lists are checked, and what is wrong is refused with a code.
+ * A slice crosses as a pointer and its length in entries; where an entry is an array, a row of a table, as a pointer to
+ * the rows and their number. A call asks one thing of its caller: that each pointer is aligned, is not null (of a slice
+ * of length 0 too), is valid for its length, and that what it writes overlaps nothing else that is lent. Counts,
+ * lengths, tables and lists are checked, and what is wrong is refused with a code.
  *
  * An answer is a struct by value. Its code is 0, or a row of document 01's marking sheet; `first` and `second` are the
  * values that the row names, in its order, and 0 where it names none:
@@ -105,30 +106,17 @@ struct pavrenni_rate {
     double rate;
 };
 
-/* ---- scratch: the least number of entries of each slice; all 0 for counts over the limits, which are refused anyway */
+/* ---- scratch: the least entries or rows of each slice; all 0 for counts over the limits, which are refused anyway */
 
 struct pavrenni_lengths {
     size_t adj_offsets;
-    size_t adj_edge;
-    size_t adj_far;
-    size_t defects;
-    size_t seen;
-    size_t active;
-    size_t front;
-    size_t touched;
-    size_t cnt;
-    size_t fresh;
-    size_t order_edge;
-    size_t order_parent;
-    size_t lit;
+    size_t adj;
+    size_t tree;
+    size_t flags;
+    size_t stacks;
+    size_t links;
     size_t growth;
     size_t sat;
-    size_t known;
-    size_t parent;
-    size_t odd;
-    size_t boundary_edge;
-    size_t hot;
-    size_t free;
 };
 
 struct pavrenni_decompose_lengths {
@@ -175,38 +163,36 @@ struct pavrenni_mark_lengths pavrenni_mark_lengths_for(size_t detectors, size_t 
     const uint8_t *component_observables, size_t component_observables_len,                                            \
     const uint32_t *entries, size_t entries_len
 
-/* A lent graph: for each edge its first end, its second end (greater, or the boundary), its weight (from 0 to 1,024, or
- * infinity), and its row of O observables. */
+/* The counts of a lent graph: D, O and E. */
+struct pavrenni_size {
+    size_t detectors;
+    size_t observables;
+    size_t edges;
+};
+
+/* A lent graph: its counts by value, then for each edge its first end, its second end (greater, or the boundary), its
+ * weight (from 0 to 1,024, or infinity), and its row of O observables. */
 #define PAVRENNI_GRAPH                                                                                                 \
-    size_t detectors, size_t observables, size_t edges,                                                                \
+    struct pavrenni_size size,                                                                                         \
     const uint32_t *edge_u, size_t edge_u_len,                                                                         \
     const uint32_t *edge_v, size_t edge_v_len,                                                                         \
     const double *edge_weight, size_t edge_weight_len,                                                                 \
     const uint64_t *edge_obs, size_t edge_obs_len
 
-/* The decoder's scratch: struct pavrenni_lengths has their lengths in the same order. An entry of a bool slice is 0 or 1. */
+/* The decoder's scratch; struct pavrenni_lengths has the entries or rows in the same order. adj_offsets: where the rows
+ * of each detector begin in adj (edge, other end, which is D for the boundary). tree (parent, boundary edge) and flags
+ * (lit, known, odd, hot, free, three to spare): a row a detector. stacks: six lists side by side (defects, seen,
+ * active, front, order edge, order parent). links: the edges of a round (touched, count, fresh, one to spare). growth
+ * and sat: an entry an edge. Every bool is 0 or 1, those to spare too. docs/SCRATCH.md says what each is for. */
 #define PAVRENNI_SCRATCH                                                                                               \
     uint32_t *adj_offsets, size_t adj_offsets_len,                                                                     \
-    uint32_t *adj_edge, size_t adj_edge_len,                                                                           \
-    uint32_t *adj_far, size_t adj_far_len,                                                                             \
-    uint32_t *defects, size_t defects_len,                                                                             \
-    uint32_t *seen, size_t seen_len,                                                                                   \
-    uint32_t *active, size_t active_len,                                                                               \
-    uint32_t *front, size_t front_len,                                                                                 \
-    uint32_t *touched, size_t touched_len,                                                                             \
-    uint8_t *cnt, size_t cnt_len,                                                                                      \
-    uint32_t *fresh, size_t fresh_len,                                                                                 \
-    uint32_t *order_edge, size_t order_edge_len,                                                                       \
-    uint32_t *order_parent, size_t order_parent_len,                                                                   \
-    bool *lit, size_t lit_len,                                                                                         \
+    uint32_t (*adj)[2], size_t adj_len,                                                                                \
+    uint32_t (*tree)[2], size_t tree_len,                                                                              \
+    bool (*flags)[8], size_t flags_len,                                                                                \
+    uint32_t (*stacks)[6], size_t stacks_len,                                                                          \
+    uint32_t (*links)[4], size_t links_len,                                                                            \
     double *growth, size_t growth_len,                                                                                 \
-    bool *sat, size_t sat_len,                                                                                         \
-    bool *known, size_t known_len,                                                                                     \
-    uint32_t *parent, size_t parent_len,                                                                               \
-    bool *odd, size_t odd_len,                                                                                         \
-    uint32_t *boundary_edge, size_t boundary_edge_len,                                                                 \
-    bool *hot, size_t hot_len,                                                                                         \
-    bool *free, size_t free_len
+    bool *sat, size_t sat_len
 
 /* ---- calls */
 

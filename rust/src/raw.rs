@@ -32,13 +32,69 @@ pub struct Tables {
     pub entries: Vec<u32>,
 }
 
+/// The tables of a model as they are lent: of [`Tables`], or of a host's own.
+#[derive(Clone, Copy, Debug)]
+pub struct LentTables<'a> {
+    pub probability: &'a [f64],
+    pub detector_counts: &'a [u8],
+    pub observable_counts: &'a [u8],
+    pub component_counts: &'a [u8],
+    pub component_detectors: &'a [u8],
+    pub component_observables: &'a [u8],
+    pub entries: &'a [u32],
+}
+
+impl<'a> From<&'a Tables> for LentTables<'a> {
+    fn from(tables: &'a Tables) -> Self {
+        LentTables {
+            probability: &tables.probability,
+            detector_counts: &tables.detector_counts,
+            observable_counts: &tables.observable_counts,
+            component_counts: &tables.component_counts,
+            component_detectors: &tables.component_detectors,
+            component_observables: &tables.component_observables,
+            entries: &tables.entries,
+        }
+    }
+}
+
+/// A graph as it is lent: a [`Graph`], or a host's own. The number of edges is told beside it.
+#[derive(Clone, Copy, Debug)]
+pub struct LentGraph<'a> {
+    pub detectors: usize,
+    pub observables: usize,
+    pub edge_u: &'a [u32],
+    pub edge_v: &'a [u32],
+    pub edge_weight: &'a [f64],
+    pub edge_obs: &'a [u64],
+}
+
+impl<'a> From<&'a Graph> for LentGraph<'a> {
+    fn from(graph: &'a Graph) -> Self {
+        LentGraph {
+            detectors: graph.detectors,
+            observables: graph.observables,
+            edge_u: &graph.edge_u,
+            edge_v: &graph.edge_v,
+            edge_weight: &graph.edge_weight,
+            edge_obs: &graph.edge_obs,
+        }
+    }
+}
+
+impl LentGraph<'_> {
+    fn size(&self, edges: usize) -> sys::Size {
+        sys::Size { detectors: self.detectors, observables: self.observables, edges }
+    }
+}
+
 /// Scratch slices, one vector each. What they hold before a call reaches no answer.
 macro_rules! scratch {
-    ($(#[$about:meta])* $name:ident of $lengths:ident { $($slice:ident: $entry:ty),* $(,)? }) => {
+    ($(#[$about:meta])* $name:ident of $lengths:ident { $($(#[$columns:meta])* $slice:ident: $entry:ty),* $(,)? }) => {
         $(#[$about])*
         #[derive(Clone, Debug, Default, PartialEq)]
         pub struct $name {
-            $(pub $slice: Vec<$entry>),*
+            $($(#[$columns])* pub $slice: Vec<$entry>),*
         }
 
         impl $name {
@@ -51,29 +107,21 @@ macro_rules! scratch {
 }
 
 scratch! {
-    /// The decoder's scratch slices.
+    /// The decoder's scratch slices: docs/SCRATCH.md.
     Scratch of Lengths {
         adj_offsets: u32,
-        adj_edge: u32,
-        adj_far: u32,
-        defects: u32,
-        seen: u32,
-        active: u32,
-        front: u32,
-        touched: u32,
-        cnt: u8,
-        fresh: u32,
-        order_edge: u32,
-        order_parent: u32,
-        lit: bool,
+        /// Edge, other end.
+        adj: [u32; 2],
+        /// Parent, boundary edge.
+        tree: [u32; 2],
+        /// Lit, known, odd, hot, free, three to spare.
+        flags: [bool; 8],
+        /// Defects, seen, active, front, order edge, order parent.
+        stacks: [u32; 6],
+        /// Touched, count, fresh, one to spare.
+        links: [u32; 4],
         growth: f64,
         sat: bool,
-        known: bool,
-        parent: u32,
-        odd: bool,
-        boundary_edge: u32,
-        hot: bool,
-        free: bool,
     }
 }
 
@@ -103,7 +151,7 @@ scratch! {
     MarkScratch of MarkLengths { marks: u64, wrong: u64 }
 }
 
-/// The least lengths of the decoder's scratch slices; all 0 for counts over the limits.
+/// The least entries or rows of the decoder's scratch slices; all 0 for counts over the limits.
 pub fn lengths(detectors: usize, edges: usize) -> sys::Lengths {
     // SAFETY: numbers alone cross.
     unsafe { sys::pavrenni_lengths_for(detectors, edges) }
@@ -132,7 +180,7 @@ pub fn mark_lengths(detectors: usize, edges: usize) -> sys::MarkLengths {
 /// A call on a model in tables, with its own arguments after them.
 macro_rules! on_model {
     ($call:ident, $counts:expr, $model:expr, $($own:expr),* $(,)?) => {{
-        let ([detectors, observables, mechanisms], model): ([usize; 3], &Tables) = ($counts, $model);
+        let ([detectors, observables, mechanisms], model): ([usize; 3], LentTables) = ($counts, $model.into());
         // SAFETY: every pointer comes from a borrowed slice or vector and crosses with its length.
         unsafe {
             sys::$call(
@@ -162,13 +210,11 @@ macro_rules! on_model {
 /// A call on a lent graph, with its own arguments after its tables.
 macro_rules! on_graph {
     ($call:ident, $graph:expr, $edges:expr, $($own:expr),* $(,)?) => {{
-        let (graph, edges): (&Graph, usize) = ($graph, $edges);
+        let graph: LentGraph = $graph.into();
         // SAFETY: every pointer comes from a borrowed slice or vector and crosses with its length.
         unsafe {
             sys::$call(
-                graph.detectors,
-                graph.observables,
-                edges,
+                graph.size($edges),
                 graph.edge_u.as_ptr(),
                 graph.edge_u.len(),
                 graph.edge_v.as_ptr(),
@@ -186,7 +232,7 @@ macro_rules! on_graph {
 /// A call on a lent graph that decodes: what is written and the scratch slices come first, then the graph and what is read.
 macro_rules! decoding {
     ($call:ident, $graph:expr, $edges:expr, $scratch:expr, $($own:expr),*; $($read:expr),* $(,)?) => {{
-        let (graph, edges): (&Graph, usize) = ($graph, $edges);
+        let graph: LentGraph = $graph.into();
         let s: &mut Scratch = $scratch;
         // SAFETY: every pointer comes from a borrowed slice or vector and crosses with its length.
         unsafe {
@@ -194,49 +240,21 @@ macro_rules! decoding {
                 $($own,)*
                 s.adj_offsets.as_mut_ptr(),
                 s.adj_offsets.len(),
-                s.adj_edge.as_mut_ptr(),
-                s.adj_edge.len(),
-                s.adj_far.as_mut_ptr(),
-                s.adj_far.len(),
-                s.defects.as_mut_ptr(),
-                s.defects.len(),
-                s.seen.as_mut_ptr(),
-                s.seen.len(),
-                s.active.as_mut_ptr(),
-                s.active.len(),
-                s.front.as_mut_ptr(),
-                s.front.len(),
-                s.touched.as_mut_ptr(),
-                s.touched.len(),
-                s.cnt.as_mut_ptr(),
-                s.cnt.len(),
-                s.fresh.as_mut_ptr(),
-                s.fresh.len(),
-                s.order_edge.as_mut_ptr(),
-                s.order_edge.len(),
-                s.order_parent.as_mut_ptr(),
-                s.order_parent.len(),
-                s.lit.as_mut_ptr(),
-                s.lit.len(),
+                s.adj.as_mut_ptr(),
+                s.adj.len(),
+                s.tree.as_mut_ptr(),
+                s.tree.len(),
+                s.flags.as_mut_ptr(),
+                s.flags.len(),
+                s.stacks.as_mut_ptr(),
+                s.stacks.len(),
+                s.links.as_mut_ptr(),
+                s.links.len(),
                 s.growth.as_mut_ptr(),
                 s.growth.len(),
                 s.sat.as_mut_ptr(),
                 s.sat.len(),
-                s.known.as_mut_ptr(),
-                s.known.len(),
-                s.parent.as_mut_ptr(),
-                s.parent.len(),
-                s.odd.as_mut_ptr(),
-                s.odd.len(),
-                s.boundary_edge.as_mut_ptr(),
-                s.boundary_edge.len(),
-                s.hot.as_mut_ptr(),
-                s.hot.len(),
-                s.free.as_mut_ptr(),
-                s.free.len(),
-                graph.detectors,
-                graph.observables,
-                edges,
+                graph.size($edges),
                 graph.edge_u.as_ptr(),
                 graph.edge_u.len(),
                 graph.edge_v.as_ptr(),
@@ -252,7 +270,7 @@ macro_rules! decoding {
 }
 
 /// `pavrenni_decompose`. The counts are of detectors, of observables and of mechanisms.
-pub fn decompose(counts: [usize; 3], model: &Tables, out: &mut Tables, scratch: &mut DecomposeScratch) -> sys::Model {
+pub fn decompose<'a>(counts: [usize; 3], model: impl Into<LentTables<'a>>, out: &mut Tables, scratch: &mut DecomposeScratch) -> sys::Model {
     on_model!(
         pavrenni_decompose,
         counts,
@@ -295,7 +313,7 @@ pub fn decompose(counts: [usize; 3], model: &Tables, out: &mut Tables, scratch: 
 }
 
 /// `pavrenni_compile`, into the four tables of `out`. The counts are of detectors, of observables and of mechanisms.
-pub fn compile(counts: [usize; 3], model: &Tables, out: &mut Graph, scratch: &mut CompileScratch) -> sys::Graph {
+pub fn compile<'a>(counts: [usize; 3], model: impl Into<LentTables<'a>>, out: &mut Graph, scratch: &mut CompileScratch) -> sys::Graph {
     on_model!(
         pavrenni_compile,
         counts,
@@ -318,8 +336,8 @@ pub fn compile(counts: [usize; 3], model: &Tables, out: &mut Graph, scratch: &mu
 }
 
 /// `pavrenni_decode_shot`: XORs into the row and writes the list.
-pub fn decode_shot(
-    graph: &Graph,
+pub fn decode_shot<'a>(
+    graph: impl Into<LentGraph<'a>>,
     edges: usize,
     shot: &[u64],
     width: usize,
@@ -343,7 +361,14 @@ pub fn decode_shot(
 }
 
 /// `pavrenni_decode_batch`: a row a shot into `out`; the list is scratch.
-pub fn decode_batch(graph: &Graph, edges: usize, shots: Packed, out: &mut [u64], list: &mut [u32], scratch: &mut Scratch) -> sys::Batch {
+pub fn decode_batch<'a>(
+    graph: impl Into<LentGraph<'a>>,
+    edges: usize,
+    shots: Packed,
+    out: &mut [u64],
+    list: &mut [u32],
+    scratch: &mut Scratch,
+) -> sys::Batch {
     decoding!(
         pavrenni_decode_batch,
         graph,
@@ -361,8 +386,8 @@ pub fn decode_batch(graph: &Graph, edges: usize, shots: Packed, out: &mut [u64],
 }
 
 /// `pavrenni_mark`: writes the row where the list passes.
-pub fn mark(
-    graph: &Graph,
+pub fn mark<'a>(
+    graph: impl Into<LentGraph<'a>>,
     edges: usize,
     shot: &[u64],
     width: usize,
@@ -389,8 +414,8 @@ pub fn mark(
 }
 
 /// `pavrenni_rate`: the rows decoded into `out`; the list is scratch.
-pub fn rate(
-    graph: &Graph,
+pub fn rate<'a>(
+    graph: impl Into<LentGraph<'a>>,
     edges: usize,
     shots: Packed,
     truth: Packed,

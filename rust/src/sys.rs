@@ -1,8 +1,8 @@
 //! The C exports of the library, as `include/pavrenni.h` declares them: the one place where this crate says so.
 //!
-//! A slice crosses as its pointer and its length. No call asks anything else of its caller than that each pointer is
-//! aligned, is not null, and is valid for its length; wrong counts and lengths are refused. [`crate::raw`] has the same
-//! calls over slices.
+//! A slice crosses as its pointer and its length, a slice of arrays as a pointer to these rows and their number. No call
+//! asks anything else of its caller than that each pointer is aligned, is not null, and is valid for its length; wrong
+//! counts and lengths are refused. [`crate::raw`] has the same calls over slices.
 
 // ---- answers
 
@@ -71,31 +71,18 @@ pub struct Rate {
 
 // ---- lengths of scratch slices
 
-/// The least lengths of the decoder's scratch slices.
+/// The least lengths of the decoder's scratch slices: entries, or rows.
 #[repr(C)]
 #[derive(Clone, Copy, Debug, PartialEq, Eq)]
 pub struct Lengths {
     pub adj_offsets: usize,
-    pub adj_edge: usize,
-    pub adj_far: usize,
-    pub defects: usize,
-    pub seen: usize,
-    pub active: usize,
-    pub front: usize,
-    pub touched: usize,
-    pub cnt: usize,
-    pub fresh: usize,
-    pub order_edge: usize,
-    pub order_parent: usize,
-    pub lit: usize,
+    pub adj: usize,
+    pub tree: usize,
+    pub flags: usize,
+    pub stacks: usize,
+    pub links: usize,
     pub growth: usize,
     pub sat: usize,
-    pub known: usize,
-    pub parent: usize,
-    pub odd: usize,
-    pub boundary_edge: usize,
-    pub hot: usize,
-    pub free: usize,
 }
 
 /// The least lengths of the scratch slices of decomposition.
@@ -138,7 +125,16 @@ extern "C" {
     pub fn pavrenni_mark_lengths_for(detectors: usize, edges: usize) -> MarkLengths;
 }
 
-// ---- calls: parameters that several of them begin or end with are written once
+// ---- calls: parameters that several of them have are written once
+
+/// The counts of a lent graph.
+#[repr(C)]
+#[derive(Clone, Copy, Debug, PartialEq, Eq)]
+pub struct Size {
+    pub detectors: usize,
+    pub observables: usize,
+    pub edges: usize,
+}
 
 /// A call on a model in tables: three counts, seven tables, then its own parameters.
 macro_rules! on_model {
@@ -168,14 +164,12 @@ macro_rules! on_model {
     };
 }
 
-/// A call on a lent graph: three counts, four tables, then its own parameters.
+/// A call on a lent graph: its counts, four tables, then its own parameters.
 macro_rules! on_graph {
     ($name:ident($($own:ident: $kind:ty),* $(,)?) -> $answer:ty) => {
         extern "C" {
             pub fn $name(
-                detectors: usize,
-                observables: usize,
-                edges: usize,
+                size: Size,
                 edge_u: *const u32,
                 edge_u_len: usize,
                 edge_v: *const u32,
@@ -190,7 +184,7 @@ macro_rules! on_graph {
     };
 }
 
-/// A call on a lent graph that decodes: the scratch slices come last.
+/// A call on a lent graph that decodes: what it writes, the scratch slices, the graph, then what it reads.
 macro_rules! decoding {
     ($name:ident($($own:ident: $kind:ty),* $(,)?; $($read:ident: $given:ty),* $(,)?) -> $answer:ty) => {
         extern "C" {
@@ -198,49 +192,21 @@ macro_rules! decoding {
                 $($own: $kind,)*
                 adj_offsets: *mut u32,
                 adj_offsets_len: usize,
-                adj_edge: *mut u32,
-                adj_edge_len: usize,
-                adj_far: *mut u32,
-                adj_far_len: usize,
-                defects: *mut u32,
-                defects_len: usize,
-                seen: *mut u32,
-                seen_len: usize,
-                active: *mut u32,
-                active_len: usize,
-                front: *mut u32,
-                front_len: usize,
-                touched: *mut u32,
-                touched_len: usize,
-                cnt: *mut u8,
-                cnt_len: usize,
-                fresh: *mut u32,
-                fresh_len: usize,
-                order_edge: *mut u32,
-                order_edge_len: usize,
-                order_parent: *mut u32,
-                order_parent_len: usize,
-                lit: *mut bool,
-                lit_len: usize,
+                adj: *mut [u32; 2],
+                adj_len: usize,
+                tree: *mut [u32; 2],
+                tree_len: usize,
+                flags: *mut [bool; 8],
+                flags_len: usize,
+                stacks: *mut [u32; 6],
+                stacks_len: usize,
+                links: *mut [u32; 4],
+                links_len: usize,
                 growth: *mut f64,
                 growth_len: usize,
                 sat: *mut bool,
                 sat_len: usize,
-                known: *mut bool,
-                known_len: usize,
-                parent: *mut u32,
-                parent_len: usize,
-                odd: *mut bool,
-                odd_len: usize,
-                boundary_edge: *mut u32,
-                boundary_edge_len: usize,
-                hot: *mut bool,
-                hot_len: usize,
-                free: *mut bool,
-                free_len: usize,
-                detectors: usize,
-                observables: usize,
-                edges: usize,
+                size: Size,
                 edge_u: *const u32,
                 edge_u_len: usize,
                 edge_v: *const u32,

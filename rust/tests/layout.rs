@@ -32,10 +32,8 @@ fn structs() {
     layout!(text: "pavrenni_batch" Batch { code, first, second });
     layout!(text: "pavrenni_mark" Mark { code, first, second, passed, detector });
     layout!(text: "pavrenni_rate" Rate { code, first, second, rate });
-    layout!(text: "pavrenni_lengths" Lengths {
-        adj_offsets, adj_edge, adj_far, defects, seen, active, front, touched, cnt, fresh, order_edge, order_parent, lit, growth, sat,
-        known, parent, odd, boundary_edge, hot, free,
-    });
+    layout!(text: "pavrenni_size" Size { detectors, observables, edges });
+    layout!(text: "pavrenni_lengths" Lengths { adj_offsets, adj, tree, flags, stacks, links, growth, sat });
     layout!(text: "pavrenni_decompose_lengths" DecomposeLengths {
         starts, before, last_of, first_of, next_of, numbers, masks, words0, words1, earlier,
     });
@@ -59,8 +57,13 @@ fn parameters(text: &str, one: fn(&str) -> Parameter, group: &dyn Fn(&str) -> Op
     parts.flat_map(|part| group(part).unwrap_or_else(|| vec![one(part)])).collect()
 }
 
-/// `const double *edge_p` as `edge_p`, `*const f64`.
+/// `const double *edge_p` as `edge_p`, `*const f64`; `uint32_t (*adj)[2]` as `adj`, `*mut [u32; 2]`.
 fn parameter_in_c(text: &str) -> Parameter {
+    if let Some((entry, rest)) = text.split_once(" (*") {
+        let (name, columns) = rest.split_once(")[").unwrap();
+        let (_, entry) = parameter_in_c(&format!("{entry} {name}"));
+        return (name.to_string(), format!("*mut [{entry}; {}]", columns.strip_suffix(']').unwrap()));
+    }
     let (kind, name) = text.split_at(text.rfind([' ', '*']).unwrap() + 1);
     let plain = match kind.replace("const ", "").trim_end_matches('*').trim() {
         "size_t" => "usize",
@@ -70,6 +73,7 @@ fn parameter_in_c(text: &str) -> Parameter {
         "uint32_t" => "u32",
         "uint64_t" => "u64",
         "bool" => "bool",
+        "struct pavrenni_size" => "Size",
         other => panic!("{other} is not a type of the header"),
     };
     let pointer = match (kind.contains('*'), kind.contains("const ")) {
@@ -120,10 +124,10 @@ fn calls() {
         ("pavrenni_mark_lengths_for", 2),
         ("pavrenni_decompose", 3 + 2 * 7 + 2 * 7 + 2 * 10),
         ("pavrenni_compile", 3 + 2 * 7 + 2 * 4 + 2 * 3),
-        ("pavrenni_decode_shot", 3 + 2 * 4 + 7 + 2 * 21),
-        ("pavrenni_decode_batch", 3 + 2 * 4 + 8 + 2 * 21),
-        ("pavrenni_mark", 3 + 2 * 4 + 7 + 2 * 2),
-        ("pavrenni_rate", 3 + 2 * 4 + 12 + 2 * 21),
+        ("pavrenni_decode_shot", 1 + 2 * 4 + 7 + 2 * 8),
+        ("pavrenni_decode_batch", 1 + 2 * 4 + 8 + 2 * 8),
+        ("pavrenni_mark", 1 + 2 * 4 + 7 + 2 * 2),
+        ("pavrenni_rate", 1 + 2 * 4 + 12 + 2 * 8),
     ];
     for (call, count) in calls {
         assert_eq!(in_sys(call), in_header(call), "{call}");

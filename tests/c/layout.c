@@ -34,30 +34,25 @@ static void answers(void)
     FIELD(pavrenni_rate, rate);
 }
 
+static void counts(void)
+{
+    STRUCT(pavrenni_size);
+    FIELD(pavrenni_size, detectors);
+    FIELD(pavrenni_size, observables);
+    FIELD(pavrenni_size, edges);
+}
+
 static void decoder_lengths(void)
 {
     STRUCT(pavrenni_lengths);
     FIELD(pavrenni_lengths, adj_offsets);
-    FIELD(pavrenni_lengths, adj_edge);
-    FIELD(pavrenni_lengths, adj_far);
-    FIELD(pavrenni_lengths, defects);
-    FIELD(pavrenni_lengths, seen);
-    FIELD(pavrenni_lengths, active);
-    FIELD(pavrenni_lengths, front);
-    FIELD(pavrenni_lengths, touched);
-    FIELD(pavrenni_lengths, cnt);
-    FIELD(pavrenni_lengths, fresh);
-    FIELD(pavrenni_lengths, order_edge);
-    FIELD(pavrenni_lengths, order_parent);
-    FIELD(pavrenni_lengths, lit);
+    FIELD(pavrenni_lengths, adj);
+    FIELD(pavrenni_lengths, tree);
+    FIELD(pavrenni_lengths, flags);
+    FIELD(pavrenni_lengths, stacks);
+    FIELD(pavrenni_lengths, links);
     FIELD(pavrenni_lengths, growth);
     FIELD(pavrenni_lengths, sat);
-    FIELD(pavrenni_lengths, known);
-    FIELD(pavrenni_lengths, parent);
-    FIELD(pavrenni_lengths, odd);
-    FIELD(pavrenni_lengths, boundary_edge);
-    FIELD(pavrenni_lengths, hot);
-    FIELD(pavrenni_lengths, free);
 }
 
 static void other_lengths(void)
@@ -85,6 +80,7 @@ static void other_lengths(void)
 int main(void)
 {
     answers();
+    counts();
     decoder_lengths();
     other_lengths();
     return 0;

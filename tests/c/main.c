@@ -19,12 +19,12 @@ static int failures = 0;
 
 /* ---- scratch, allocated by the lengths that the library tells */
 
+typedef uint32_t row_of_2[2], row_of_4[4], row_of_6[6];
+typedef bool row_of_flags[8];
+
 #define DECODER_SLICES(SLICE) \
-    SLICE(adj_offsets, uint32_t) SLICE(adj_edge, uint32_t) SLICE(adj_far, uint32_t) SLICE(defects, uint32_t) \
-    SLICE(seen, uint32_t) SLICE(active, uint32_t) SLICE(front, uint32_t) SLICE(touched, uint32_t) SLICE(cnt, uint8_t) \
-    SLICE(fresh, uint32_t) SLICE(order_edge, uint32_t) SLICE(order_parent, uint32_t) SLICE(lit, bool) \
-    SLICE(growth, double) SLICE(sat, bool) SLICE(known, bool) SLICE(parent, uint32_t) SLICE(odd, bool) \
-    SLICE(boundary_edge, uint32_t) SLICE(hot, bool) SLICE(free, bool)
+    SLICE(adj_offsets, uint32_t) SLICE(adj, row_of_2) SLICE(tree, row_of_2) SLICE(flags, row_of_flags) \
+    SLICE(stacks, row_of_6) SLICE(links, row_of_4) SLICE(growth, double) SLICE(sat, bool)
 
 #define DECOMPOSE_SLICES(SLICE) \
     SLICE(starts, uint32_t) SLICE(before, uint32_t) SLICE(last_of, uint32_t) SLICE(first_of, uint32_t) \
@@ -38,7 +38,7 @@ static int failures = 0;
 #define MEMBER(name, type) type *name;
 #define TAKE(name, type) s.name = memory(s.lengths.name * sizeof(type));
 #define GIVE_BACK(name, type) free(s.name);
-/* pointer and length, as the last arguments of a call */
+/* pointer and length, as arguments of a call that follow others */
 #define LENT(name, type) , s.name, s.lengths.name
 
 struct decoder_scratch { DECODER_SLICES(MEMBER) struct pavrenni_lengths lengths; };
@@ -81,8 +81,8 @@ struct graph {
     (m)->component_detectors, (m)->components, (m)->component_observables, (m)->components, (m)->entries, (m)->entry_count
 
 #define GRAPH(g) \
-    (g)->detectors, (g)->observables, (g)->edges, (g)->edge_u, (g)->edges, (g)->edge_v, (g)->edges, (g)->edge_weight, \
-    (g)->edges, (g)->edge_obs, (g)->edges
+    (struct pavrenni_size){(g)->detectors, (g)->observables, (g)->edges}, (g)->edge_u, (g)->edges, (g)->edge_v, \
+    (g)->edges, (g)->edge_weight, (g)->edges, (g)->edge_obs, (g)->edges
 
 static struct pavrenni_model decompose(const struct model *model, struct model *out)
 {
@@ -144,7 +144,7 @@ static struct pavrenni_batch decode_batch(const struct graph *graph, const struc
     uint32_t list[2];
     s.lengths = pavrenni_lengths_for(graph->detectors, graph->edges);
     DECODER_SLICES(TAKE)
-    s.lengths.free -= a->lacks;
+    s.lengths.sat -= a->lacks;
     struct pavrenni_batch answer = pavrenni_decode_batch(
         out, a->out_len, list, a->list_len DECODER_SLICES(LENT), GRAPH(graph), a->rows, a->rows_len, a->shots, a->width);
     DECODER_SLICES(GIVE_BACK)
@@ -157,7 +157,7 @@ static struct pavrenni_rate rate(const struct graph *graph, const struct asked *
     uint32_t list[2];
     s.lengths = pavrenni_lengths_for(graph->detectors, graph->edges);
     DECODER_SLICES(TAKE)
-    s.lengths.free -= a->lacks;
+    s.lengths.sat -= a->lacks;
     struct pavrenni_rate answer = pavrenni_rate(
         out, a->out_len, list, a->list_len DECODER_SLICES(LENT), GRAPH(graph), a->rows, a->rows_len, a->shots, a->width,
         a->truth, a->truth_len, a->true_shots, a->true_width);

@@ -1,8 +1,14 @@
-// The edges at each detector, ascending, each with its other end beside it: adj_offsets has where each detector's begin, adj_edge the edges, adj_far the other ends.
+// The edges at each detector, ascending, each in a row with its other end: adj_offsets has where each detector's begin, adj the rows.
 ghost use Prim.Native.Nat.{_+_, _*_, _<_, _≤_};
 ghost use mathlib.Core.Path.{_≡_};
 ghost use lib.ListN.{length, getD, replicate};
 ghost use Rattle.adjacency.specs.Adjacent.{Sized, Counted, Summed, Put, Adjacent};
+ghost use Rattle.adjacency.specs.Pairs.{near, away, Tabled, AdjacentParts};
+
+// The columns of a row.
+pub const EDGE: usize = 0;
+
+pub const OTHER: usize = 1;
 
 const BOUNDARY: u32 = 4294967295;
 
@@ -53,29 +59,22 @@ fn sums(d: usize, edge_u: &[u32], edge_v: &[u32], adj_offsets: &mut [u32])
 }
 
 // Puts the edge e, whose other end is y, before the edges of x.
-fn put(adj_offsets: &mut [u32], adj_edge: &mut [u32], adj_far: &mut [u32], x: usize, e: u32, y: u32)
-    requires { ⌜ (x < length (now «adj_offsets»)) × (0 < getD (now «adj_offsets») x 0) × (getD (now «adj_offsets») x 0 ≤ length (now «adj_edge»)) × (length (now «adj_far») ≡ length (now «adj_edge»)) ⌝ }
-    ensures { λ _. ⌜ Put (now («adj_offsets» .entry)) (now («adj_edge» .entry)) (now («adj_far» .entry)) (now («adj_offsets» .exit)) (now («adj_edge» .exit)) (now («adj_far» .exit)) x e y ⌝ }
+fn put(adj_offsets: &mut [u32], adj: &mut [[u32; 2]], x: usize, e: u32, y: u32)
+    requires { ⌜ (x < length (now «adj_offsets»)) × (0 < getD (now «adj_offsets») x 0) × (getD (now «adj_offsets») x 0 ≤ length (now adj)) ⌝ }
+    ensures { λ _. ⌜ Put (now («adj_offsets» .entry)) (near (now (adj .entry))) (away (now (adj .entry))) (now («adj_offsets» .exit)) (near (now (adj .exit))) (away (now (adj .exit))) x e y ⌝ }
 {
     let i = adj_offsets[x] - 1;
     adj_offsets[x] = i;
-    adj_edge[i as usize] = e;
-    adj_far[i as usize] = y;
+    let at = i as usize;
+    adj[at] = [e, y];
 }
 
 // Puts every edge at its ends, the last first, so that each detector's come out ascending.
-fn fill(
-    d: usize,
-    edge_u: &[u32],
-    edge_v: &[u32],
-    adj_offsets: &mut [u32],
-    adj_edge: &mut [u32],
-    adj_far: &mut [u32],
-)
+fn fill(d: usize, edge_u: &[u32], edge_v: &[u32], adj_offsets: &mut [u32], adj: &mut [[u32; 2]])
     requires { ⌜ Sized d (now «edge_u») (now «edge_v») (now «adj_offsets») ⌝ }
     requires { ⌜ Summed d (now «edge_u») (now «edge_v») (now «adj_offsets») ⌝ }
-    requires { ⌜ (2 * length (now «edge_u») ≤ length (now «adj_edge»)) × (length (now «adj_far») ≡ length (now «adj_edge»)) ⌝ }
-    ensures { λ _. ⌜ Adjacent d (now («edge_u» .entry)) (now («edge_v» .entry)) (now («adj_offsets» .exit)) (now («adj_edge» .exit)) (now («adj_far» .exit)) ⌝ }
+    requires { ⌜ 2 * length (now «edge_u») ≤ length (now adj) ⌝ }
+    ensures { λ _. ⌜ Adjacent d (now («edge_u» .entry)) (now («edge_v» .entry)) (now («adj_offsets» .exit)) (near (now (adj .exit))) (away (now (adj .exit))) ⌝ }
 {
     let mut e = edge_u.len();
     while 0 < e {
@@ -83,17 +82,10 @@ fn fill(
         let a = edge_u[e];
         let b = edge_v[e];
         if b != BOUNDARY {
-            put(adj_offsets, adj_edge, adj_far, a as usize, e as u32, b);
-            put(adj_offsets, adj_edge, adj_far, b as usize, e as u32, a);
+            put(adj_offsets, adj, a as usize, e as u32, b);
+            put(adj_offsets, adj, b as usize, e as u32, a);
         } else {
-            put(
-                adj_offsets,
-                adj_edge,
-                adj_far,
-                a as usize,
-                e as u32,
-                d as u32,
-            );
+            put(adj_offsets, adj, a as usize, e as u32, d as u32);
         }
     }
 }
@@ -104,15 +96,36 @@ pub fn adjacency(
     edge_u: &[u32],
     edge_v: &[u32],
     adj_offsets: &mut [u32],
-    adj_edge: &mut [u32],
-    adj_far: &mut [u32],
+    adj: &mut [[u32; 2]],
 )
     requires { ⌜ Sized d (now «edge_u») (now «edge_v») (now «adj_offsets») ⌝ }
-    requires { ⌜ (2 * length (now «edge_u») ≤ length (now «adj_edge»)) × (length (now «adj_far») ≡ length (now «adj_edge»)) ⌝ }
-    ensures { λ _. ⌜ Adjacent d (now («edge_u» .entry)) (now («edge_v» .entry)) (now («adj_offsets» .exit)) (now («adj_edge» .exit)) (now («adj_far» .exit)) ⌝ }
+    requires { ⌜ 2 * length (now «edge_u») ≤ length (now adj) ⌝ }
+    ensures { λ _. ⌜ Adjacent d (now («edge_u» .entry)) (now («edge_v» .entry)) (now («adj_offsets» .exit)) (near (now (adj .exit))) (away (now (adj .exit))) ⌝ }
 {
     clear(adj_offsets);
     degrees(d, edge_u, edge_v, adj_offsets);
     sums(d, edge_u, edge_v, adj_offsets);
-    fill(d, edge_u, edge_v, adj_offsets, adj_edge, adj_far);
+    fill(d, edge_u, edge_v, adj_offsets, adj);
+}
+
+// The same where slices may be longer than the counts need: of the ends and the offsets the first entries are lent.
+pub fn tabulate(
+    detectors: usize,
+    edges: usize,
+    edge_u: &[u32],
+    edge_v: &[u32],
+    adj_offsets: &mut [u32],
+    adj: &mut [[u32; 2]],
+)
+    requires { ⌜ Tabled detectors edges (now «edge_u») (now «edge_v») (now «adj_offsets») (now adj) ⌝ }
+    ensures { λ _. ⌜ AdjacentParts detectors edges (now («edge_u» .entry)) (now («edge_v» .entry)) (now («adj_offsets» .exit)) (now (adj .exit)) ⌝ }
+{
+    let offsets = detectors + 1;
+    adjacency(
+        detectors,
+        &edge_u[0..edges],
+        &edge_v[0..edges],
+        &mut adj_offsets[0..offsets],
+        adj,
+    );
 }

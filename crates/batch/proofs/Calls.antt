@@ -1,59 +1,34 @@
 -- The call put together: the tests of its own slices, what an accepted batch has, and what it answers and leaves.
 use Prim.Native.Nat.{ℕ, _*_, _≤_}
 use native.Mathlib.Omega.{arith}
-use mathlib.Core.Path.{_≡_, refl, sym, ap, _∙_, subst}
+use mathlib.Core.Path.{_≡_, refl, sym, ap, _∙_}
 use mathlib.Core.List.{List}
-use mathlib.Core.Bool.{Bool, true, not, _&&_}
+use mathlib.Core.Bool.{Bool, true, _&&_}
 use lib.Dec.{leb}
 use lib.ListN.{length}
-use borrow.Author.Tests.{leb-true, not-false}
+use borrow.Author.Tests.{leb-true}
 use Rattle.lists.specs.Lists.{below}
 use Rattle.lists.proofs.Truth.{and-left, and-right}
 use Rattle.bits.specs.Rows.{words}
 use Rattle.codes.specs.Codes.{checkedRow}
 use Rattle.codes.specs.declared.Refusal.{Refusal}
-use Rattle.codes.specs.declared.Refusal.the-variants.{Short}
 use Rattle.codes.specs.declared.Checked.{Checked}
 use Rattle.codes.specs.declared.Checked.the-variants.{Accepted, Refused}
-use Rattle.codes.specs.Order.{refuseIf, andThen}
-use Rattle.codes.specs.Limits.{checkCounts, checkShots}
-use Rattle.steps.specs.Call.{checkEdges}
-use Rattle.scratch.specs.Scratch.{scratchLong, covers, lengthsFor}
+use Rattle.scratch.specs.Scratch.{scratchLong}
 use Rattle.scratch.specs.Laws.{Long}
 use Rattle.scratch.proofs.Laws.{scratch-long}
-use Rattle.lent.proofs.Limits.{both-accept, not-refused}
-use Rattle.calls.specs.Call.{graphIn, tablesIn, checkRows, checkCall}
+use Rattle.calls.specs.Call.{graphIn, checkCall}
 use Rattle.calls.specs.Laws.{Accepts}
 use Rattle.calls.proofs.Laws.{call-accepted}
-use Rattle.tabled.specs.Tabled.{Room}
-use Rattle.tabled.specs.Long.{cleanLong, restLong}
+use Rattle.tabled.specs.Long.{slicesLong}
 use Rattle.batch_rows.specs.Rows.{checkShotsOf, rowsOf, GivenRows}
 use Rattle.batch.specs.Batch.{Handed, ownLong, checks, Decodes}
 
--- ---- the outcome
-
--- the tests in parts
-abbrev pub cleanBy : Handed → Bool
-cleanBy h = cleanLong (h .graph .detectors) (h .graph .edges) (h .scratch .lit) (h .scratch .growth) (h .scratch .sat) (h .scratch .known) (h .scratch .parent) (h .scratch .odd) (h .scratch .«boundary_edge») (h .scratch .hot) (h .scratch .free)
-
-abbrev pub ownBy : Handed → Bool → Bool
-ownBy h rest = restLong (h .graph .detectors) (h .graph .observables) (h .graph .edges) (h .shots) (length (h .out)) (h .list) (h .scratch .«adj_offsets») (h .scratch .«adj_edge») (h .scratch .«adj_far») (h .scratch .defects) (h .scratch .seen) (h .scratch .active) (h .scratch .front) (h .scratch .touched) (h .scratch .cnt) (h .scratch .fresh) (h .scratch .«order_edge») (h .scratch .«order_parent») rest
-
 module _ (h : Handed) where
-  -- slices that are long enough have room for the edges at each detector
-  pub room : {long : Bool} → long ≡ ownLong h → long ≡ true → Room (h .graph .detectors) (h .graph .edges) (h .scratch .«adj_offsets») (h .scratch .«adj_edge») (h .scratch .«adj_far»)
+  -- the tests are those of the call's own slices
+  pub own-is : {long : Bool} → long ≡ slicesLong (h .graph .detectors) (h .graph .observables) (h .graph .edges) (h .shots) (length (h .out)) (h .list) (h .scratch) → long ≡ ownLong h
   unfolding ownLong
-  room p q =
-      let rows = leb (h .shots * words (h .graph .observables)) (length (h .out)) in
-      let lists = leb (h .graph .detectors) (h .list) in
-      let slices = scratchLong (h .graph .detectors) (h .graph .edges) (h .scratch) in
-      let k = scratch-long (h .graph .detectors) (h .graph .edges) (h .scratch) (and-right lists slices (and-right rows (lists && slices) (sym p ∙ q))) in
-      record { offs = k .adj-offsets; adjs = k .adj-edge; fars = k .adj-far }
-
-  -- the tests put together
-  pub own-is : {own long : Bool} → own ≡ ownBy h long → long ≡ cleanBy h → own ≡ ownLong h
-  unfolding ownLong scratchLong covers lengthsFor
-  own-is p q = p ∙ ap (ownBy h) q
+  own-is p = p
 
   -- the check of the call is the one that was made
   pub checks-by : (long : Bool) (c : Checked) → long ≡ ownLong h → c ≡ checkCall (h .graph) long (h .rows) (h .shots) (h .width) → c ≡ checks h
@@ -68,20 +43,6 @@ module _ (h : Handed) where
     pub accepts : Accepts (h .graph) (ownLong h) (h .rows) (h .shots) (h .width)
     unfolding checks
     accepts = call-accepted (h .graph) (ownLong h) (h .rows) (h .shots) (h .width) (sym a)
-
-    -- what led to its graph, and the check of it
-    pub passed : (checkCounts (h .graph .detectors) (h .graph .observables) (h .graph .edges) ≡ Accepted) × (tablesIn (h .graph) ≡ true) × (checkEdges (graphIn (h .graph)) (below (h .graph .edges)) ≡ Accepted)
-    unfolding checks checkCall
-    passed =
-        let l = h .graph in
-        let rest = checkRows (l .detectors) (h .rows) (h .shots) (h .width) in
-        let graph = andThen (checkEdges (graphIn l) (below (l .edges))) rest in
-        let short = refuseIf (not (tablesIn l && ownLong h)) Short in
-        let (p, q) = both-accept (checkCounts (l .detectors) (l .observables) (l .edges)) (andThen (checkShots (h .shots)) (andThen short graph)) (sym a) in
-        let (r, s) = both-accept (checkShots (h .shots)) (andThen short graph) q in
-        let (t, u) = both-accept short graph s in
-        let (e, v) = both-accept (checkEdges (graphIn l) (below (l .edges))) rest u in
-        (p, and-left (tablesIn l) (ownLong h) (not-false (tablesIn l && ownLong h) (not-refused (not (tablesIn l && ownLong h)) Short t)), e)
 
     own : ownLong h ≡ true
     own = accepts .own-long
@@ -113,9 +74,3 @@ module _ (h : Handed) where
 
     pub decoded : {r : Checked} {out : List ℕ} → (r ≡ checkShotsOf (graphIn (h .graph)) (h .rows) (below (h .shots))) × (out ≡ rowsOf (graphIn (h .graph)) (h .rows) (below (h .shots)) (h .out)) → Decodes h r out
     decoded k = record { sheet = rw (sym a) (ap checkedRow (k .0)); answers = rw (sym a) (k .0); rows = rw (sym a) (k .1) }
-
--- ---- tables of another content and the same lengths
-
-pub still-decodes : (f : ℕ → ℕ → ℕ → Handed) {a b c a′ b′ c′ : ℕ} {r : Checked} {out : List ℕ} → a′ ≡ a → b′ ≡ b → c′ ≡ c → Decodes (f a′ b′ c′) r out → Decodes (f a b c) r out
-still-decodes f {a} {b} {c} {a′} {b′} {c′} {r} {out} p q s k =
-    subst (λ (x : ℕ). Decodes (f x b c) r out) p (subst (λ (x : ℕ). Decodes (f a′ x c) r out) q (subst (λ (x : ℕ). Decodes (f a′ b′ x) r out) s k))

@@ -19,10 +19,10 @@ use Rattle.packed.specs.Packed.{rowAt}
 use Rattle.steps.specs.Graph.{Graph}
 use Rattle.steps.specs.Rows.{zeros, rowOf}
 use Rattle.steps.specs.Shot.{Decoded, impossible, corrected, rowLeft, rowAfter}
-use Rattle.batch_shot.specs.Row.{putRow, shotAt, rowFor}
+use Rattle.batch_rows.specs.Row.{putRow, shotAt, rowFor}
 use Rattle.batch_rows.specs.Rows.{checkShotsOf, rowsOf}
 use Rattle.batch_rows.specs.Laws.{Done, Stopped, RowAlone, RowsBefore}
-use Rattle.batch_shot.proofs.Put.{next-row, row-inside, put-length, put-before, put-own, put-after, put-later, row-taken}
+use Rattle.batch_rows.proofs.Put.{next-row, row-inside, put-length, put-before, put-own, put-after, put-later, row-taken}
 
 -- a shot is Stuck or it is not
 by-shot {ℓ} : {C : Type ℓ} (x : Decoded) → ((n d : ℕ) → x ≡ impossible n d → C) → ((n : ℕ) (list : List ℕ) → x ≡ corrected n list → C) → C

@@ -1,2 +1,5 @@
-pub mod Turns
+pub mod Put
+pub mod Parts
 pub mod Laws
+pub mod Turns
+pub mod Starts

@@ -4,6 +4,7 @@ use native.Mathlib.Numerals.{add-one}
 use native.Mathlib.Omega.{arith}
 use mathlib.Core.Path.{_≡_, sym, ap, _∙_}
 use mathlib.Core.List.{List, [], _∷_}
+use mathlib.Core.Bool.{Bool}
 use lib.Ieee.{Float}
 use lib.ListN.{length}
 use Rattle.lists.specs.Lists.{from}
@@ -13,11 +14,16 @@ use Rattle.codes.specs.declared.Checked.the-variants.{Accepted, Refused}
 use Rattle.steps.specs.Graph.{Graph}
 use Rattle.steps.specs.Shot.{Decoded, impossible, corrected}
 use Rattle.steps.specs.Call.{graphOf}
+use Rattle.columns.specs.Columns.{Wide}
+use Rattle.columns.proofs.Columns.{column-length}
+use Rattle.cells.specs.Tables.{Words, Flags, parents, exits, lits, knowns, odds, hots, frees, defects, seen, active, front, orderEdge, orderParent, touched, cnt, fresh}
+use Rattle.cleaning.specs.Clean.{Clean}
 use Rattle.shot_answer.specs.declared.Shot.{Shot}
 use Rattle.shot_answer.specs.declared.Shot.the-variants as shot
 use Rattle.shot_answer.specs.Shots.{Places, graphIn, shotOf}
-use Rattle.batch_shot.specs.Row.{putRow, shotAt, rowFor, GivenRow}
-use Rattle.batch_shot.proofs.Put.{row-inside}
+use Rattle.batch_rows.specs.Ready.{Ready}
+use Rattle.batch_rows.specs.Row.{putRow, shotAt, rowFor, GivenRow}
+use Rattle.batch_rows.proofs.Put.{row-inside}
 use Rattle.batch_rows.specs.Rows.{checkShotsOf, rowsOf, GivenRows}
 
 -- ---- what a shot's answer says of the steps
@@ -110,24 +116,32 @@ given-row {d} {o} {shots} {s} k h out list′ a b = record {
   lists = omega (arith, k .lists);
 }
 
--- ---- what a shot leaves to the next
+-- ---- what a shot asks and leaves to the next
 
--- of the same length as before the shot, and as at first
-pub on : (b : ℕ) {a c : ℕ} → a ≡ b → b ≡ c → a ≡ c
-on b p q = p ∙ q
+-- places in the stacks and the links
+pub places : {d E : ℕ} {tree : Words} {flags : Flags} {stacks links : Words} {growth : List Float} {sat : List Bool} → Ready d E tree flags stacks links growth sat
+    → Places d E (defects stacks) (seen stacks) (active stacks) (front stacks) (touched links) (cnt links) (fresh links) (orderEdge stacks) (orderParent stacks)
+places {stacks = stacks} {links = links} k = record {
+  lit-ones = omega (arith, k .stack-rows, column-length 0 0 stacks);
+  seens = omega (arith, k .stack-rows, column-length 0 1 stacks);
+  actives = omega (arith, k .stack-rows, column-length 0 2 stacks);
+  fronts = omega (arith, k .stack-rows, column-length 0 3 stacks);
+  touches = omega (arith, k .link-rows, column-length 0 0 links);
+  counts = omega (arith, k .link-rows, column-length 0 1 links);
+  freshes = omega (arith, k .link-rows, column-length 0 2 links);
+  trees = omega (arith, k .stack-rows, column-length 0 4 stacks);
+  parents = omega (arith, k .stack-rows, column-length 0 5 stacks);
+}
 
--- places of the same length
-pub places-on : {d E : ℕ} {defects seen active front touched cnt fresh oe op defects′ seen′ active′ front′ touched′ cnt′ fresh′ oe′ op′ : List ℕ} → Places d E defects seen active front touched cnt fresh oe op
-    → length defects′ ≡ length defects → length seen′ ≡ length seen → length active′ ≡ length active → length front′ ≡ length front → length touched′ ≡ length touched → length cnt′ ≡ length cnt
-    → length fresh′ ≡ length fresh → length oe′ ≡ length oe → length op′ ≡ length op → Places d E defects′ seen′ active′ front′ touched′ cnt′ fresh′ oe′ op′
-places-on k a b c e f g h i j = record {
-  lit-ones = omega (arith, k .lit-ones, a);
-  seens = omega (arith, k .seens, b);
-  actives = omega (arith, k .actives, c);
-  fronts = omega (arith, k .fronts, e);
-  touches = omega (arith, k .touches, f);
-  counts = omega (arith, k .counts, g);
-  freshes = omega (arith, k .freshes, h);
-  trees = omega (arith, k .trees, i);
-  parents = omega (arith, k .parents, j);
+-- tables at rest after a shot, with as many rows
+pub ready-on : {d E : ℕ} {tree : Words} {flags : Flags} {stacks links : Words} {growth : List Float} {sat : List Bool} → Ready d E tree flags stacks links growth sat
+    → {tree′ : Words} {flags′ : Flags} {stacks′ links′ : Words} {growth′ : List Float} {sat′ : List Bool}
+    → Clean d E (lits flags′) growth′ sat′ (knowns flags′) (parents tree′) (odds flags′) (exits tree′) (hots flags′) (frees flags′)
+    → Wide 2 tree′ × Wide 8 flags′ × Wide 6 stacks′ × Wide 4 links′ → length stacks′ ≡ length stacks → length links′ ≡ length links → Ready d E tree′ flags′ stacks′ links′ growth′ sat′
+ready-on k c w p q = record {
+  rested = record { clean = c; trees = w .0; flagged = w .1 };
+  stacked = w .2;
+  linked = w .3;
+  stack-rows = omega (arith, k .stack-rows, p);
+  link-rows = omega (arith, k .link-rows, q);
 }

@@ -11,7 +11,7 @@ use Rattle.packed.specs.Packed.{rowAt}
 use Rattle.steps.specs.Graph.{Graph}
 use Rattle.steps.specs.Rows.{zeros}
 use Rattle.steps.specs.Shot.{impossible}
-use Rattle.batch_shot.specs.Row.{shotAt, rowFor}
+use Rattle.batch_rows.specs.Row.{shotAt, rowFor}
 use Rattle.batch_rows.specs.Rows.{checkShotsOf, rowsOf}
 
 module _ (g : Graph) (rows : List ℕ) (shots : ℕ) (out : List ℕ) where

@@ -14,7 +14,7 @@ use Rattle.packed.specs.Packed.{rowAt}
 use Rattle.steps.specs.Graph.{Graph}
 use Rattle.steps.specs.Rows.{zeros}
 use Rattle.steps.specs.Shot.{Decoded, impossible, corrected, decode, rowLeft}
-use Rattle.batch_shot.specs.Row.{putRow, shotAt, rowFor}
+use Rattle.batch_rows.specs.Row.{putRow, shotAt, rowFor}
 
 module _ (g : Graph) (rows : List ℕ) where
   -- 11 with shot and detector, where shot s is Stuck

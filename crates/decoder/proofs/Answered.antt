@@ -1,10 +1,12 @@
--- What the call answers and leaves, by the check and by the steps on the parts of its slices.
+-- What the call answers and leaves, by the check and by the steps.
 use Prim.Native.Nat.{ℕ}
-use mathlib.Core.Path.{_≡_, refl, sym, ap, _∙_, subst}
-use mathlib.Core.List.{List}
+use native.Mathlib.Nat.{one-mul}
+use mathlib.Core.Path.{_≡_, refl, sym, ap, _∙_}
+use mathlib.Core.List.{List, []}
 use mathlib.Core.Bool.{Bool, true, false}
 use lib.ListN.{length}
 use Rattle.lists.proofs.Truth.{clash}
+use Rattle.bits.specs.Rows.{words}
 use Rattle.bits.proofs.Booleans.{bits-length}
 use Rattle.codes.specs.declared.Refusal.{Refusal}
 use Rattle.codes.specs.declared.Checked.{Checked}
@@ -12,53 +14,41 @@ use Rattle.codes.specs.declared.Checked.the-variants.{Accepted, Refused}
 use Rattle.steps.specs.Shot.{Decoded, impossible, corrected, rowLeft}
 use Rattle.steps.specs.Call.{graphOf, listLeft}
 use Rattle.found.proofs.Found.{found}
-use Rattle.scratch.specs.Scratch.{scratchLong, covers, lengthsFor}
-use Rattle.calls.specs.Call.{Lent, checkCall}
+use Rattle.calls.specs.Call.{checkCall}
 use Rattle.calls.specs.Laws.{Accepts}
 use Rattle.calls.proofs.Laws.{call-accepted}
 use Rattle.shot_answer.specs.declared.Shot.{Shot}
+use Rattle.shot_answer.specs.declared.Shot.the-variants as shot
 use Rattle.shot_answer.specs.Shots.{shotOf}
+use Rattle.shots.specs.Blank.{isBlank}
+use Rattle.shots.proofs.Laws.{blank, blank-row}
+use Rattle.shots.proofs.Blank.{none-lit}
+use Rattle.tabled.specs.Long.{slicesLong}
 use Rattle.decoder.specs.declared.Answer.{Answer}
 use Rattle.decoder.specs.declared.Answer.the-variants as answer
 use Rattle.decoder.specs.Answer.{Handed, ownLong, checks, graphOfCall, litOfCall, decoded, sheetOf, callRow, answerOf, listAfter, rowAfter, Decodes}
-use Rattle.decoder.specs.Parts.{answerTo, adjLong, cleanLong, restLong}
-use Rattle.decoder.proofs.Laws.{own, adj-long}
+use Rattle.decoder.specs.Parts.{answerTo}
 
--- the tests in parts
-abbrev pub cleanBy : Handed → Bool
-cleanBy h = cleanLong (h .graph .detectors) (h .graph .edges) (h .scratch .lit) (h .scratch .growth) (h .scratch .sat) (h .scratch .known) (h .scratch .parent) (h .scratch .odd) (h .scratch .«boundary_edge») (h .scratch .hot) (h .scratch .free)
-
-abbrev pub ownBy : Handed → Bool → Bool
-ownBy h rest = restLong (h .graph .detectors) (h .graph .observables) (h .graph .edges) (length (h .row)) (length (h .list)) (h .scratch .«adj_offsets») (h .scratch .«adj_edge») (h .scratch .«adj_far») (h .scratch .defects) (h .scratch .seen) (h .scratch .active) (h .scratch .front) (h .scratch .touched) (h .scratch .cnt) (h .scratch .fresh) (h .scratch .«order_edge») (h .scratch .«order_parent») rest
+-- the test of the call's own slices is that of a batch of one
+pub own-is : (h : Handed) {long : Bool} → long ≡ slicesLong (h .graph .detectors) (h .graph .observables) (h .graph .edges) 1 (length (h .row)) (length (h .list)) (h .scratch) → long ≡ ownLong h
+unfolding ownLong
+own-is h p = rw (one-mul (words (h .graph .observables))) at p
 
 -- the check of the call is the one that was made
 pub checked : (h : Handed) (long : Bool) (c : Checked) → long ≡ ownLong h → c ≡ checkCall (h .graph) long (h .shot) 1 (h .width) → checks h ≡ c
 unfolding checks
 checked h long c p q = sym (q ∙ ap (λ (b : Bool). checkCall (h .graph) b (h .shot) 1 (h .width)) p)
 
--- the tests of the call's own slices, put together
-pub own-is : (h : Handed) {own long : Bool} → own ≡ ownBy h long → long ≡ cleanBy h → own ≡ ownLong h
-unfolding ownLong scratchLong covers lengthsFor
-own-is h p q = p ∙ ap (ownBy h) q
-
 pub accepts : (h : Handed) → checks h ≡ Accepted → Accepts (h .graph) (ownLong h) (h .shot) 1 (h .width)
 unfolding checks
 accepts h a = call-accepted (h .graph) (ownLong h) (h .shot) 1 (h .width) a
-
--- it is accepted by what is known before its other slices are tested
-pub adj-accepted : (h : Handed) → checks h ≡ Accepted
-    → checkCall (h .graph) (adjLong (h .graph .detectors) (h .graph .edges) (h .scratch .«adj_offsets») (h .scratch .«adj_edge») (h .scratch .«adj_far»)) (h .shot) 1 (h .width) ≡ Accepted
-unfolding checks
-adj-accepted h a =
-    let t = accepts h a .own-long in
-    ap (λ (b : Bool). checkCall (h .graph) b (h .shot) 1 (h .width)) (adj-long (h .graph .detectors) (h .graph .edges) (own h t .2) ∙ sym t) ∙ a
 
 -- a refusal is no acceptance
 refuses : Checked → Bool
 refuses Accepted = false
 refuses (Refused r) = true
 
-pub not-accepted : {X : Type 0} (r : Refusal) → Refused r ≡ Accepted → X
+not-accepted : {X : Type 0} (r : Refusal) → Refused r ≡ Accepted → X
 unfolding refuses
 not-accepted {X} r h = clash {C = X} {b = refuses (Refused r)} refl (ap refuses h)
 
@@ -98,13 +88,13 @@ decodes h a p q s t =
       found = λ _. found (graphOfCall h) (accepts h a .graph) (litOfCall h) (bits-length (h .graph .detectors) (h .shot));
     }
 
--- ---- tables of another content and the same lengths
+-- a shot with no lit detector: no round, an empty list, and a row XORed with nothing
+blank-steps : (h : Handed) → isBlank (h .shot) ≡ true → decoded h ≡ corrected 0 []
+unfolding graphOf
+blank-steps h b = blank (graphOfCall h) (h .shot) (none-lit (h .graph .detectors) (h .shot) b)
 
-pub still-tabled : (l : Lent) (shot : List ℕ) (d n width : ℕ) {a b c a′ b′ c′ : ℕ} {P : Type 0} → a′ ≡ a → b′ ≡ b → c′ ≡ c
-    → (checkCall l (adjLong d n a b c) shot 1 width ≡ Accepted → P) → checkCall l (adjLong d n a′ b′ c′) shot 1 width ≡ Accepted → P
-still-tabled l shot d n width {a} {b} {c} {a′} {b′} {c′} p q r f h =
-    f (subst (λ (x : ℕ). checkCall l (adjLong d n x b c) shot 1 width ≡ Accepted) p (subst (λ (x : ℕ). checkCall l (adjLong d n a′ x c) shot 1 width ≡ Accepted) q (subst (λ (x : ℕ). checkCall l (adjLong d n a′ b′ x) shot 1 width ≡ Accepted) r h)))
-
-pub still-decodes : (f : ℕ → ℕ → ℕ → Handed) {a b c a′ b′ c′ : ℕ} {r : Answer} {list row : List ℕ} → a′ ≡ a → b′ ≡ b → c′ ≡ c → Decodes (f a′ b′ c′) r list row → Decodes (f a b c) r list row
-still-decodes f {a} {b} {c} {a′} {b′} {c′} {r} {list} {row} p q s k =
-    subst (λ (x : ℕ). Decodes (f x b c) r list row) p (subst (λ (x : ℕ). Decodes (f a′ x c) r list row) q (subst (λ (x : ℕ). Decodes (f a′ b′ x) r list row) s k))
+pub blanked : (h : Handed) → checks h ≡ Accepted → isBlank (h .shot) ≡ true → Decodes h (answer.Decoded 0 0) (h .list) (h .row)
+unfolding listLeft
+blanked h a b =
+    let q = blank-steps h b in
+    decodes h a {shot = shot.Decoded 0 0} refl (ap shotOf (sym q)) (ap (listLeft (h .list)) (sym q)) (sym (blank-row (graphOfCall h) (h .row)) ∙ ap (rowLeft (graphOfCall h) (h .row)) (sym q))

@@ -8,7 +8,7 @@ ghost use Rattle.calls.specs.Call.{lentOf};
 ghost use Rattle.decoder.specs.Answer.{handed};
 ghost use Rattle.demand3.specs.Verified.{Fits, Follows, Verified};
 
-// The marker's answer and its row, which 128 observables fill. By value: a function with this many slices bears no other one that is written.
+// The marker's answer and its row, which 128 observables fill. By value: each slice lent for writing makes the check longer.
 pub struct Verdict {
     pub marking: Marking,
     pub row: [u64; 2],
@@ -71,26 +71,13 @@ pub fn decode_and_mark(
     row: &mut [u64],
     list: &mut [u32],
     adj_offsets: &mut [u32],
-    adj_edge: &mut [u32],
-    adj_far: &mut [u32],
-    defects: &mut [u32],
-    seen: &mut [u32],
-    active: &mut [u32],
-    front: &mut [u32],
-    touched: &mut [u32],
-    cnt: &mut [u8],
-    fresh: &mut [u32],
-    order_edge: &mut [u32],
-    order_parent: &mut [u32],
-    lit: &mut [bool],
+    adj: &mut [[u32; 2]],
+    tree: &mut [[u32; 2]],
+    flags: &mut [[bool; 8]],
+    stacks: &mut [[u32; 6]],
+    links: &mut [[u32; 4]],
     growth: &mut [f64],
     sat: &mut [bool],
-    known: &mut [bool],
-    parent: &mut [u32],
-    odd: &mut [bool],
-    boundary_edge: &mut [u32],
-    hot: &mut [bool],
-    free: &mut [bool],
     detectors: usize,
     observables: usize,
     edges: usize,
@@ -101,7 +88,7 @@ pub fn decode_and_mark(
     shot: &[u64],
     width: usize,
 ) -> Verdict
-    ensures { λ v. ⌜ Verified (handed (lentOf detectors observables edges (now («edge_u» .entry)) (now («edge_v» .entry)) (now («edge_weight» .entry)) (now («edge_obs» .entry))) (now (shot .entry)) width (now (row .entry)) (now (list .entry)) (lengthsOf (length (now («adj_offsets» .entry))) (length (now («adj_edge» .entry))) (length (now («adj_far» .entry))) (length (now (defects .entry))) (length (now (seen .entry))) (length (now (active .entry))) (length (now (front .entry))) (length (now (touched .entry))) (length (now (cnt .entry))) (length (now (fresh .entry))) (length (now («order_edge» .entry))) (length (now («order_parent» .entry))) (length (now (lit .entry))) (length (now (growth .entry))) (length (now (sat .entry))) (length (now (known .entry))) (length (now (parent .entry))) (length (now (odd .entry))) (length (now («boundary_edge» .entry))) (length (now (hot .entry))) (length (now (free .entry))))) v (now (list .exit)) (now (row .exit)) ⌝ }
+    ensures { λ v. ⌜ Verified (handed (lentOf detectors observables edges (now («edge_u» .entry)) (now («edge_v» .entry)) (now («edge_weight» .entry)) (now («edge_obs» .entry))) (now (shot .entry)) width (now (row .entry)) (now (list .entry)) (lengthsOf (length (now («adj_offsets» .entry))) (length (now (adj .entry))) (length (now (tree .entry))) (length (now (flags .entry))) (length (now (stacks .entry))) (length (now (links .entry))) (length (now (growth .entry))) (length (now (sat .entry))))) v (now (list .exit)) (now (row .exit)) ⌝ }
 {
     mark_answer(
         decoder::decode_shot(
@@ -111,26 +98,13 @@ pub fn decode_and_mark(
             row,
             list,
             adj_offsets,
-            adj_edge,
-            adj_far,
-            defects,
-            seen,
-            active,
-            front,
-            touched,
-            cnt,
-            fresh,
-            order_edge,
-            order_parent,
-            lit,
+            adj,
+            tree,
+            flags,
+            stacks,
+            links,
             growth,
             sat,
-            known,
-            parent,
-            odd,
-            boundary_edge,
-            hot,
-            free,
             edge_u,
             edge_v,
             edge_weight,

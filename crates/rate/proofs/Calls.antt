@@ -1,7 +1,7 @@
 -- What the call answers and leaves, by its checks, by the shots decoded and by the failures counted.
 use Prim.Native.Nat.{ℕ, _<_}
 use native.Mathlib.Omega.{arith}
-use mathlib.Core.Path.{_≡_, refl, sym, ap, _∙_, subst}
+use mathlib.Core.Path.{_≡_, refl, sym, ap, _∙_}
 use mathlib.Core.List.{List}
 use mathlib.Core.Bool.{Bool, true}
 use lib.Ieee.{Float}
@@ -18,7 +18,7 @@ use Rattle.packed.specs.Packed.{rowAt}
 use Rattle.packed.specs.Laws.{Sound}
 use Rattle.packed.proofs.Laws.{accepted-sound}
 use Rattle.steps.specs.Call.{graphOf}
-use Rattle.batch_shot.specs.Row.{shotAt, rowFor}
+use Rattle.batch_rows.specs.Row.{shotAt, rowFor}
 use Rattle.batch_rows.specs.Rows.{checkShotsOf, rowsOf}
 use Rattle.batch_rows.proofs.Laws.{row-alone}
 use Rattle.batch.specs.Batch as batch
@@ -100,8 +100,3 @@ module _ (c : Compared) where
           let p : r ≡ answerOf (outcome c) (rateOf O (failures c) Shots) = rw (sym a) (e ∙ same-answer decoded (shape c) (λ d. ap (λ (n : ℕ). rateOf O n Shots) (same-failures d))
           ∙ ap (λ (x : Checked). answerOf (andThen x (shape c)) (rateOf O (failures c) Shots)) (k .0)) in
           record { sheet = ap sheetOf p ∙ on-sheet (outcome c) (rateOf O (failures c) Shots); answers = p; rows = rw (sym a) (k .1) }
-
--- tables of another content and the same lengths
-pub still-rates : (f : ℕ → ℕ → ℕ → Compared) {a b c a′ b′ c′ : ℕ} {r : ErrorRate} {out : List ℕ} → a′ ≡ a → b′ ≡ b → c′ ≡ c → Rates (f a′ b′ c′) r out → Rates (f a b c) r out
-still-rates f {a} {b} {c} {a′} {b′} {c′} {r} {out} p q s k =
-    subst (λ (x : ℕ). Rates (f x b c) r out) p (subst (λ (x : ℕ). Rates (f a′ x c) r out) q (subst (λ (x : ℕ). Rates (f a′ b′ x) r out) s k))

@@ -11,7 +11,7 @@ use Rattle.codes.specs.Order.{andThen}
 use Rattle.packed.specs.Packed.{rowAt}
 use Rattle.steps.specs.Graph.{Graph}
 use Rattle.calls.specs.Call.{graphIn}
-use Rattle.batch_shot.specs.Row.{rowFor}
+use Rattle.batch_rows.specs.Row.{rowFor}
 use Rattle.batch_rows.specs.Rows.{checkShotsOf, rowsOf}
 use Rattle.batch.specs.Batch.{Handed, ownLong, outAfter}
 use Rattle.failures.specs.declared.ErrorRate.{ErrorRate}

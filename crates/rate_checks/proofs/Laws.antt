@@ -2,11 +2,9 @@
 use Prim.Native.Nat.{ℕ}
 use mathlib.Core.Path.{_≡_}
 use mathlib.Core.List.{List}
-use mathlib.Core.Bool.{Bool, true, not, _&&_}
+use mathlib.Core.Bool.{Bool, not, _&&_}
 use lib.Dec.{eqb}
-use borrow.Author.Tests.{not-false}
 use Rattle.lists.specs.Lists.{below}
-use Rattle.lists.proofs.Truth.{and-left, and-right}
 use Rattle.codes.specs.declared.Refusal.the-variants.{Short, Width}
 use Rattle.codes.specs.declared.Checked.{Checked}
 use Rattle.codes.specs.declared.Checked.the-variants.{Accepted}
@@ -14,7 +12,7 @@ use Rattle.codes.specs.Order.{refuseIf, andThen}
 use Rattle.codes.specs.Limits.{checkCounts, checkShots}
 use Rattle.packed.specs.Packed.{checkPacked}
 use Rattle.steps.specs.Call.{checkEdges}
-use Rattle.lent.proofs.Limits.{both-accept, not-refused}
+use Rattle.lent.proofs.Limits.{both-accept}
 use Rattle.calls.specs.Call.{Lent, graphIn, tablesIn, checkRows, checkCall}
 use Rattle.rate_checks.specs.Checks.{checkBoth, checkRate}
 
@@ -22,12 +20,8 @@ use Rattle.rate_checks.specs.Checks.{checkBoth, checkRate}
 accept-all : (a b c d e f : Checked) → a ≡ Accepted → b ≡ Accepted → c ≡ Accepted → d ≡ Accepted → e ≡ Accepted → f ≡ Accepted → andThen a (andThen b (andThen c (andThen d (andThen e f)))) ≡ Accepted
 accept-all a b c d e f p q r s t u = rw (p, q, r, s, t, u)
 
--- what each check says of an accepted call
+-- what an accepted call has
 pub record Passed (l : Lent) (long : Bool) (rows : List ℕ) (shots width : ℕ) (truth : List ℕ) (true-shots true-width : ℕ) : Type 0 where
-  pub counts : checkCounts (l .detectors) (l .observables) (l .edges) ≡ Accepted
-  pub tables : tablesIn l ≡ true
-  pub own-long : long ≡ true
-  pub edges : checkEdges (graphIn l) (below (l .edges)) ≡ Accepted
   -- a batch of the same shots is accepted
   pub call : checkCall l long rows shots width ≡ Accepted
   pub packing : checkPacked truth true-shots true-width ≡ Accepted
@@ -47,12 +41,7 @@ module _ (l : Lent) (long : Bool) (rows : List ℕ) (shots width : ℕ) (truth :
       let (e, u) = both-accept (checkEdges (graphIn l) (below (l .edges))) packings t in
       let (k, v) = both-accept (checkPacked rows shots width) (andThen (checkPacked truth true-shots true-width) last) u in
       let (m, w) = both-accept (checkPacked truth true-shots true-width) last v in
-      let both = not-false (tablesIn l && long) (not-refused (not (tablesIn l && long)) Short s) in
       record {
-        counts = a;
-        tables = and-left (tablesIn l) long both;
-        own-long = and-right (tablesIn l) long both;
-        edges = e;
         call = accept-all (checkCounts (l .detectors) (l .observables) (l .edges)) (checkShots shots) short (checkEdges (graphIn l) (below (l .edges))) (checkPacked rows shots width) last a b s e k w;
         packing = m;
       }

@@ -3,12 +3,7 @@ use codes::Checked;
 use codes::Refusal;
 use packed::Packed;
 ghost use mathlib.Core.Path.{_≡_};
-ghost use mathlib.Core.Bool.{true};
-ghost use Rattle.lists.specs.Lists.{below};
-ghost use Rattle.codes.specs.declared.Checked.the-variants.{Accepted};
-ghost use Rattle.codes.specs.Limits.{checkCounts};
-ghost use Rattle.steps.specs.Call.{checkEdges};
-ghost use Rattle.calls.specs.Call.{lentOf, graphIn, tablesIn};
+ghost use Rattle.calls.specs.Call.{lentOf};
 ghost use Rattle.rate_checks.specs.Checks.{checkBoth, checkRate};
 
 // 8, 9 of the shots, 8, 9 of the true observables, then 10.
@@ -37,7 +32,7 @@ fn check_both(
     Checked::Accepted
 }
 
-// All checks, where that of the graph has been made: `graph` is its answer if the call comes to it. Long for its parameters, one a line.
+// 1, 2 (the tables, and whether the call's own slices are long enough), the graph, then both packings and the width. Long for its parameters, one a line.
 pub fn check_rate(
     detectors: usize,
     observables: usize,
@@ -47,7 +42,6 @@ pub fn check_rate(
     edge_weight: &[f64],
     edge_obs: &[u64],
     long: bool,
-    graph: Checked,
     rows: &[u64],
     shots: usize,
     width: usize,
@@ -55,7 +49,6 @@ pub fn check_rate(
     true_shots: usize,
     true_width: usize,
 ) -> Checked
-    requires { ⌜ (checkCounts detectors observables edges ≡ Accepted → tablesIn (lentOf detectors observables edges (now «edge_u») (now «edge_v») (now «edge_weight») (now «edge_obs»)) ≡ true → long ≡ true → graph ≡ checkEdges (graphIn (lentOf detectors observables edges (now «edge_u») (now «edge_v») (now «edge_weight») (now «edge_obs»))) (below edges)) ⌝ }
     ensures { λ r. ⌜ r ≡ checkRate (lentOf detectors observables edges (now («edge_u» .entry)) (now («edge_v» .entry)) (now («edge_weight» .entry)) (now («edge_obs» .entry))) long (now (rows .entry)) shots width (now (truth .entry)) «true_shots» «true_width» ⌝ }
 {
     let counts = codes::check_counts(detectors, observables, edges);
@@ -76,6 +69,15 @@ pub fn check_rate(
     if !long {
         return Checked::Refused(Refusal::Short);
     }
+    let graph = lent::check_edges(
+        detectors,
+        observables,
+        edges,
+        edge_u,
+        edge_v,
+        edge_weight,
+        edge_obs,
+    );
     if let Checked::Refused(r) = graph {
         return Checked::Refused(r);
     }

@@ -24,29 +24,16 @@ past n len =
     (λ f. f ∙ sym (lt-leb (n + 1) len (omega (arith, ltb-false n len f))))
 
 -- the tests of all slices, from the last to the first
-pub all-long : (D E : ℕ) (have : Lengths) (r1 r2 r3 r4 r5 r6 r7 r8 r9 r10 r11 r12 r13 r14 r15 r16 r17 r18 r19 r20 r21 : Bool)
-    → r1 ≡ (leb D (have .free) && true)
-    → r2 ≡ (leb D (have .hot) && r1)
-    → r3 ≡ (leb D (have .«boundary_edge») && r2)
-    → r4 ≡ (leb D (have .odd) && r3)
-    → r5 ≡ (leb D (have .parent) && r4)
-    → r6 ≡ (leb D (have .known) && r5)
-    → r7 ≡ (leb E (have .sat) && r6)
-    → r8 ≡ (leb E (have .growth) && r7)
-    → r9 ≡ (leb D (have .lit) && r8)
-    → r10 ≡ (leb D (have .«order_parent») && r9)
-    → r11 ≡ (leb D (have .«order_edge») && r10)
-    → r12 ≡ (leb E (have .fresh) && r11)
-    → r13 ≡ (ltb E (have .cnt) && r12)
-    → r14 ≡ (ltb E (have .touched) && r13)
-    → r15 ≡ (leb D (have .front) && r14)
-    → r16 ≡ (leb D (have .active) && r15)
-    → r17 ≡ (leb D (have .seen) && r16)
-    → r18 ≡ (leb D (have .defects) && r17)
-    → r19 ≡ (leb E (have .«adj_far» / 2) && r18)
-    → r20 ≡ (leb E (have .«adj_edge» / 2) && r19)
-    → r21 ≡ (ltb D (have .«adj_offsets») && r20)
-    → r21 ≡ scratchLong D E have
+pub all-long : (D E : ℕ) (have : Lengths) {r1 r2 r3 r4 r5 r6 r7 r8 : Bool}
+    → r1 ≡ (leb E (have .sat) && true)
+    → r2 ≡ (leb E (have .growth) && r1)
+    → r3 ≡ (ltb E (have .links) && r2)
+    → r4 ≡ (leb D (have .stacks) && r3)
+    → r5 ≡ (leb D (have .flags) && r4)
+    → r6 ≡ (leb D (have .tree) && r5)
+    → r7 ≡ (leb E (have .adj / 2) && r6)
+    → r8 ≡ (ltb D (have .«adj_offsets») && r7)
+    → r8 ≡ scratchLong D E have
 unfolding scratchLong covers lengthsFor
-all-long D E have r1 r2 r3 r4 r5 r6 r7 r8 r9 r10 r11 r12 r13 r14 r15 r16 r17 r18 r19 r20 r21 p1 p2 p3 p4 p5 p6 p7 p8 p9 p10 p11 p12 p13 p14 p15 p16 p17 p18 p19 p20 p21 =
-    rw (p21, p20, p19, p18, p17, p16, p15, p14, p13, p12, p11, p10, p9, p8, p7, p6, p5, p4, p3, p2, p1, past D (have .«adj_offsets»), past E (have .touched), past E (have .cnt), half E (have .«adj_edge»), half E (have .«adj_far»), and-true (leb D (have .free))) refl
+all-long D E have p1 p2 p3 p4 p5 p6 p7 p8 =
+    rw (p8, p7, p6, p5, p4, p3, p2, p1, past D (have .«adj_offsets»), half E (have .adj), past E (have .links), and-true (leb E (have .sat))) refl

@@ -4,82 +4,43 @@ use mathlib.Core.Bool.{Bool, _&&_}
 use lib.Dec.{leb}
 use Rattle.scratch.specs.declared.Lengths.{Lengths}
 
--- the lengths of slices, in the order of a call's parameters
-abbrev pub lengthsOf : ℕ → ℕ → ℕ → ℕ → ℕ → ℕ → ℕ → ℕ → ℕ → ℕ → ℕ → ℕ → ℕ → ℕ → ℕ → ℕ → ℕ → ℕ → ℕ → ℕ → ℕ → Lengths
-lengthsOf adj-offsets adj-edge adj-far defects seen active front touched cnt fresh order-edge order-parent lit growth sat known parent odd boundary-edge hot free = record {
+-- the lengths of slices, in the order of a call's parameters: of a table its number of rows
+abbrev pub lengthsOf : ℕ → ℕ → ℕ → ℕ → ℕ → ℕ → ℕ → ℕ → Lengths
+lengthsOf adj-offsets adj tree flags stacks links growth sat = record {
   «adj_offsets» = adj-offsets;
-  «adj_edge» = adj-edge;
-  «adj_far» = adj-far;
-  defects = defects;
-  seen = seen;
-  active = active;
-  front = front;
-  touched = touched;
-  cnt = cnt;
-  fresh = fresh;
-  «order_edge» = order-edge;
-  «order_parent» = order-parent;
-  lit = lit;
+  adj = adj;
+  tree = tree;
+  flags = flags;
+  stacks = stacks;
+  links = links;
   growth = growth;
   sat = sat;
-  known = known;
-  parent = parent;
-  odd = odd;
-  «boundary_edge» = boundary-edge;
-  hot = hot;
-  free = free;
 }
 
--- an entry for each detector or each edge, one past the edges where an edge is written before it is known to be listed, an offset for each detector and one past them, and both ends of each edge
+-- a row or an entry for each detector or each edge, one past the edges where an edge is written before it is known to be listed, an offset for each detector and one past them, and both ends of each edge
 unfoldable pub lengthsFor : ℕ → ℕ → Lengths
 lengthsFor D E = record {
   «adj_offsets» = D + 1;
-  «adj_edge» = 2 * E;
-  «adj_far» = 2 * E;
-  defects = D;
-  seen = D;
-  active = D;
-  front = D;
-  touched = E + 1;
-  cnt = E + 1;
-  fresh = E;
-  «order_edge» = D;
-  «order_parent» = D;
-  lit = D;
+  adj = 2 * E;
+  tree = D;
+  flags = D;
+  stacks = D;
+  links = E + 1;
   growth = E;
   sat = E;
-  known = D;
-  parent = D;
-  odd = D;
-  «boundary_edge» = D;
-  hot = D;
-  free = D;
 }
 
 -- each slice has at least what is needed of it
 unfoldable pub covers : Lengths → Lengths → Bool
 covers need have =
     leb (need .«adj_offsets») (have .«adj_offsets»)
-    && (leb (need .«adj_edge») (have .«adj_edge»)
-    && (leb (need .«adj_far») (have .«adj_far»)
-    && (leb (need .defects) (have .defects)
-    && (leb (need .seen) (have .seen)
-    && (leb (need .active) (have .active)
-    && (leb (need .front) (have .front)
-    && (leb (need .touched) (have .touched)
-    && (leb (need .cnt) (have .cnt)
-    && (leb (need .fresh) (have .fresh)
-    && (leb (need .«order_edge») (have .«order_edge»)
-    && (leb (need .«order_parent») (have .«order_parent»)
-    && (leb (need .lit) (have .lit)
+    && (leb (need .adj) (have .adj)
+    && (leb (need .tree) (have .tree)
+    && (leb (need .flags) (have .flags)
+    && (leb (need .stacks) (have .stacks)
+    && (leb (need .links) (have .links)
     && (leb (need .growth) (have .growth)
-    && (leb (need .sat) (have .sat)
-    && (leb (need .known) (have .known)
-    && (leb (need .parent) (have .parent)
-    && (leb (need .odd) (have .odd)
-    && (leb (need .«boundary_edge») (have .«boundary_edge»)
-    && (leb (need .hot) (have .hot)
-    && leb (need .free) (have .free))))))))))))))))))))
+    && leb (need .sat) (have .sat)))))))
 
 unfoldable pub scratchLong : ℕ → ℕ → Lengths → Bool
 unfolding lengthsFor covers

@@ -10,26 +10,13 @@ ghost use Rattle.scratch.specs.Laws.{each};
 #[repr(C)]
 pub struct Lengths {
     pub adj_offsets: usize,
-    pub adj_edge: usize,
-    pub adj_far: usize,
-    pub defects: usize,
-    pub seen: usize,
-    pub active: usize,
-    pub front: usize,
-    pub touched: usize,
-    pub cnt: usize,
-    pub fresh: usize,
-    pub order_edge: usize,
-    pub order_parent: usize,
-    pub lit: usize,
+    pub adj: usize,
+    pub tree: usize,
+    pub flags: usize,
+    pub stacks: usize,
+    pub links: usize,
     pub growth: usize,
     pub sat: usize,
-    pub known: usize,
-    pub parent: usize,
-    pub odd: usize,
-    pub boundary_edge: usize,
-    pub hot: usize,
-    pub free: usize,
 }
 
 // The least lengths, for counts within the limits.
@@ -37,29 +24,15 @@ pub fn least_lengths(detectors: usize, edges: usize) -> Lengths
     requires { ⌜ (detectors ≤ maxDetectors) × (edges ≤ maxMechanisms) ⌝ }
     ensures { λ r. ⌜ r ≡ lengthsFor detectors edges ⌝ }
 {
-    let ends = 2 * edges;
     Lengths {
         adj_offsets: detectors + 1,
-        adj_edge: ends,
-        adj_far: ends,
-        defects: detectors,
-        seen: detectors,
-        active: detectors,
-        front: detectors,
-        touched: edges + 1,
-        cnt: edges + 1,
-        fresh: edges,
-        order_edge: detectors,
-        order_parent: detectors,
-        lit: detectors,
+        adj: 2 * edges,
+        tree: detectors,
+        flags: detectors,
+        stacks: detectors,
+        links: edges + 1,
         growth: edges,
         sat: edges,
-        known: detectors,
-        parent: detectors,
-        odd: detectors,
-        boundary_edge: detectors,
-        hot: detectors,
-        free: detectors,
     }
 }
 
@@ -69,26 +42,13 @@ pub fn no_lengths() -> Lengths
 {
     Lengths {
         adj_offsets: 0,
-        adj_edge: 0,
-        adj_far: 0,
-        defects: 0,
-        seen: 0,
-        active: 0,
-        front: 0,
-        touched: 0,
-        cnt: 0,
-        fresh: 0,
-        order_edge: 0,
-        order_parent: 0,
-        lit: 0,
+        adj: 0,
+        tree: 0,
+        flags: 0,
+        stacks: 0,
+        links: 0,
         growth: 0,
         sat: 0,
-        known: 0,
-        parent: 0,
-        odd: 0,
-        boundary_edge: 0,
-        hot: 0,
-        free: 0,
     }
 }
 
@@ -113,28 +73,15 @@ pub fn fits_past(n: usize, len: usize, rest: bool) -> bool
 }
 
 // Whether each slice has what the counts need, whatever they are: no product or sum of them is made.
-pub fn is_long(detectors: usize, edges: usize, have: Lengths) -> bool
+pub fn long(detectors: usize, edges: usize, have: Lengths) -> bool
     ensures { λ r. ⌜ r ≡ scratchLong detectors edges have ⌝ }
 {
-    let mut long = fits(detectors, have.free, true);
-    long = fits(detectors, have.hot, long);
-    long = fits(detectors, have.boundary_edge, long);
-    long = fits(detectors, have.odd, long);
-    long = fits(detectors, have.parent, long);
-    long = fits(detectors, have.known, long);
-    long = fits(edges, have.sat, long);
-    long = fits(edges, have.growth, long);
-    long = fits(detectors, have.lit, long);
-    long = fits(detectors, have.order_parent, long);
-    long = fits(detectors, have.order_edge, long);
-    long = fits(edges, have.fresh, long);
-    long = fits_past(edges, have.cnt, long);
-    long = fits_past(edges, have.touched, long);
-    long = fits(detectors, have.front, long);
-    long = fits(detectors, have.active, long);
-    long = fits(detectors, have.seen, long);
-    long = fits(detectors, have.defects, long);
-    long = fits(edges, have.adj_far / 2, long);
-    long = fits(edges, have.adj_edge / 2, long);
-    fits_past(detectors, have.adj_offsets, long)
+    let mut rest = fits(edges, have.sat, true);
+    rest = fits(edges, have.growth, rest);
+    rest = fits_past(edges, have.links, rest);
+    rest = fits(detectors, have.stacks, rest);
+    rest = fits(detectors, have.flags, rest);
+    rest = fits(detectors, have.tree, rest);
+    rest = fits(edges, have.adj / 2, rest);
+    fits_past(detectors, have.adj_offsets, rest)
 }

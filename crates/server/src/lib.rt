@@ -7,9 +7,7 @@ use graph::Compiled;
 use marking::Marking;
 use scratch::Lengths;
 ghost use mathlib.Core.Path.{_≡_};
-ghost use Rattle.calls.specs.Call.{lentOf};
 ghost use lib.ListN.{length};
-ghost use Rattle.scratch.specs.Scratch.{lengthsOf};
 ghost use Rattle.decoder.specs.Answer.{handed, Decodes};
 ghost use Rattle.batch.specs.Batch as batched;
 ghost use Rattle.rate.specs.Rate.{compared, Rates};
@@ -21,8 +19,17 @@ ghost use Rattle.graph.specs.Tables.{slices};
 ghost use Rattle.graph.specs.Outcome.{outcome, Compiles};
 ghost use Prim.Native.Nat.{_≤_};
 ghost use Rattle.codes.specs.Limits.{maxMechanisms};
+ghost use Rattle.server.specs.Lent.{lentBy, lengthsBy};
 ghost use Rattle.server.specs.Lengths.{within, decodeLengths, decomposeWith, decomposeLengths, compileWith, compileLengths, markWith, markLengths};
 ghost use Rattle.server.specs.Words.{InWords, wordsOfModel, wordsOfGraph, wordsOfMark, wordsOfShot, wordsOfBatch, wordsOfRate};
+
+// The counts of a lent graph.
+#[repr(C)]
+pub struct Size {
+    pub detectors: usize,
+    pub observables: usize,
+    pub edges: usize,
+}
 
 // The answer of compiling.
 #[repr(C)]
@@ -260,9 +267,7 @@ fn mark_words(a: Marking) -> MarkWords
 
 #[no_mangle]
 pub extern "C" fn pavrenni_mark(
-    detectors: usize,
-    observables: usize,
-    edges: usize,
+    size: Size,
     edge_u: &[u32],
     edge_v: &[u32],
     edge_weight: &[f64],
@@ -274,12 +279,12 @@ pub extern "C" fn pavrenni_mark(
     marks: &mut [u64],
     wrong: &mut [u64],
 ) -> MarkWords
-    ensures { λ r. ⌜ InWords wordsOfMark (λ a. Marks (lentOf detectors observables edges (now («edge_u» .entry)) (now («edge_v» .entry)) (now («edge_weight» .entry)) (now («edge_obs» .entry))) (now (shot .entry)) width (now (list .entry)) (now (row .entry)) (now (marks .entry)) (now (wrong .entry)) a (now (row .exit))) r ⌝ }
+    ensures { λ r. ⌜ InWords wordsOfMark (λ a. Marks (lentBy size (now («edge_u» .entry)) (now («edge_v» .entry)) (now («edge_weight» .entry)) (now («edge_obs» .entry))) (now (shot .entry)) width (now (list .entry)) (now (row .entry)) (now (marks .entry)) (now (wrong .entry)) a (now (row .exit))) r ⌝ }
 {
     mark_words(marker::mark(
-        detectors,
-        observables,
-        edges,
+        size.detectors,
+        size.observables,
+        size.edges,
         edge_u,
         edge_v,
         edge_weight,
@@ -362,29 +367,14 @@ pub extern "C" fn pavrenni_decode_shot(
     row: &mut [u64],
     list: &mut [u32],
     adj_offsets: &mut [u32],
-    adj_edge: &mut [u32],
-    adj_far: &mut [u32],
-    defects: &mut [u32],
-    seen: &mut [u32],
-    active: &mut [u32],
-    front: &mut [u32],
-    touched: &mut [u32],
-    cnt: &mut [u8],
-    fresh: &mut [u32],
-    order_edge: &mut [u32],
-    order_parent: &mut [u32],
-    lit: &mut [bool],
+    adj: &mut [[u32; 2]],
+    tree: &mut [[u32; 2]],
+    flags: &mut [[bool; 8]],
+    stacks: &mut [[u32; 6]],
+    links: &mut [[u32; 4]],
     growth: &mut [f64],
     sat: &mut [bool],
-    known: &mut [bool],
-    parent: &mut [u32],
-    odd: &mut [bool],
-    boundary_edge: &mut [u32],
-    hot: &mut [bool],
-    free: &mut [bool],
-    detectors: usize,
-    observables: usize,
-    edges: usize,
+    size: Size,
     edge_u: &[u32],
     edge_v: &[u32],
     edge_weight: &[f64],
@@ -392,35 +382,22 @@ pub extern "C" fn pavrenni_decode_shot(
     shot: &[u64],
     width: usize,
 ) -> ShotWords
-    ensures { λ r. ⌜ InWords wordsOfShot (λ a. Decodes (handed (lentOf detectors observables edges (now («edge_u» .entry)) (now («edge_v» .entry)) (now («edge_weight» .entry)) (now («edge_obs» .entry))) (now (shot .entry)) width (now (row .entry)) (now (list .entry)) (lengthsOf (length (now («adj_offsets» .entry))) (length (now («adj_edge» .entry))) (length (now («adj_far» .entry))) (length (now (defects .entry))) (length (now (seen .entry))) (length (now (active .entry))) (length (now (front .entry))) (length (now (touched .entry))) (length (now (cnt .entry))) (length (now (fresh .entry))) (length (now («order_edge» .entry))) (length (now («order_parent» .entry))) (length (now (lit .entry))) (length (now (growth .entry))) (length (now (sat .entry))) (length (now (known .entry))) (length (now (parent .entry))) (length (now (odd .entry))) (length (now («boundary_edge» .entry))) (length (now (hot .entry))) (length (now (free .entry))))) a (now (list .exit)) (now (row .exit))) r ⌝ }
+    ensures { λ r. ⌜ InWords wordsOfShot (λ a. Decodes (handed (lentBy size (now («edge_u» .entry)) (now («edge_v» .entry)) (now («edge_weight» .entry)) (now («edge_obs» .entry))) (now (shot .entry)) width (now (row .entry)) (now (list .entry)) (lengthsBy (now («adj_offsets» .entry)) (now (adj .entry)) (now (tree .entry)) (now (flags .entry)) (now (stacks .entry)) (now (links .entry)) (now (growth .entry)) (now (sat .entry)))) a (now (list .exit)) (now (row .exit))) r ⌝ }
 {
     shot_words(decoder::decode_shot(
-        detectors,
-        observables,
-        edges,
+        size.detectors,
+        size.observables,
+        size.edges,
         row,
         list,
         adj_offsets,
-        adj_edge,
-        adj_far,
-        defects,
-        seen,
-        active,
-        front,
-        touched,
-        cnt,
-        fresh,
-        order_edge,
-        order_parent,
-        lit,
+        adj,
+        tree,
+        flags,
+        stacks,
+        links,
         growth,
         sat,
-        known,
-        parent,
-        odd,
-        boundary_edge,
-        hot,
-        free,
         edge_u,
         edge_v,
         edge_weight,
@@ -534,29 +511,14 @@ pub extern "C" fn pavrenni_decode_batch(
     out: &mut [u64],
     list: &mut [u32],
     adj_offsets: &mut [u32],
-    adj_edge: &mut [u32],
-    adj_far: &mut [u32],
-    defects: &mut [u32],
-    seen: &mut [u32],
-    active: &mut [u32],
-    front: &mut [u32],
-    touched: &mut [u32],
-    cnt: &mut [u8],
-    fresh: &mut [u32],
-    order_edge: &mut [u32],
-    order_parent: &mut [u32],
-    lit: &mut [bool],
+    adj: &mut [[u32; 2]],
+    tree: &mut [[u32; 2]],
+    flags: &mut [[bool; 8]],
+    stacks: &mut [[u32; 6]],
+    links: &mut [[u32; 4]],
     growth: &mut [f64],
     sat: &mut [bool],
-    known: &mut [bool],
-    parent: &mut [u32],
-    odd: &mut [bool],
-    boundary_edge: &mut [u32],
-    hot: &mut [bool],
-    free: &mut [bool],
-    detectors: usize,
-    observables: usize,
-    edges: usize,
+    size: Size,
     edge_u: &[u32],
     edge_v: &[u32],
     edge_weight: &[f64],
@@ -565,35 +527,22 @@ pub extern "C" fn pavrenni_decode_batch(
     shots: usize,
     width: usize,
 ) -> BatchWords
-    ensures { λ r. ⌜ InWords wordsOfBatch (λ a. batched.Decodes (batched.handed (lentOf detectors observables edges (now («edge_u» .entry)) (now («edge_v» .entry)) (now («edge_weight» .entry)) (now («edge_obs» .entry))) (now (rows .entry)) shots width (now (out .entry)) (length (now (list .entry))) (lengthsOf (length (now («adj_offsets» .entry))) (length (now («adj_edge» .entry))) (length (now («adj_far» .entry))) (length (now (defects .entry))) (length (now (seen .entry))) (length (now (active .entry))) (length (now (front .entry))) (length (now (touched .entry))) (length (now (cnt .entry))) (length (now (fresh .entry))) (length (now («order_edge» .entry))) (length (now («order_parent» .entry))) (length (now (lit .entry))) (length (now (growth .entry))) (length (now (sat .entry))) (length (now (known .entry))) (length (now (parent .entry))) (length (now (odd .entry))) (length (now («boundary_edge» .entry))) (length (now (hot .entry))) (length (now (free .entry))))) a (now (out .exit))) r ⌝ }
+    ensures { λ r. ⌜ InWords wordsOfBatch (λ a. batched.Decodes (batched.handed (lentBy size (now («edge_u» .entry)) (now («edge_v» .entry)) (now («edge_weight» .entry)) (now («edge_obs» .entry))) (now (rows .entry)) shots width (now (out .entry)) (length (now (list .entry))) (lengthsBy (now («adj_offsets» .entry)) (now (adj .entry)) (now (tree .entry)) (now (flags .entry)) (now (stacks .entry)) (now (links .entry)) (now (growth .entry)) (now (sat .entry)))) a (now (out .exit))) r ⌝ }
 {
     batch_words(batch::decode_batch(
-        detectors,
-        observables,
-        edges,
+        size.detectors,
+        size.observables,
+        size.edges,
         out,
         list,
         adj_offsets,
-        adj_edge,
-        adj_far,
-        defects,
-        seen,
-        active,
-        front,
-        touched,
-        cnt,
-        fresh,
-        order_edge,
-        order_parent,
-        lit,
+        adj,
+        tree,
+        flags,
+        stacks,
+        links,
         growth,
         sat,
-        known,
-        parent,
-        odd,
-        boundary_edge,
-        hot,
-        free,
         edge_u,
         edge_v,
         edge_weight,
@@ -632,35 +581,20 @@ fn rate_words(a: ErrorRate) -> RateWords
     }
 }
 
-// The logical error rate, in the two steps of `rate::logical_error_rate`: a call with all of the slices and the true observables is over the checker's limit of steps. Long for its parameters, one a line.
+// The logical error rate. Long for its parameters, one a line.
 #[no_mangle]
 pub extern "C" fn pavrenni_rate(
     out: &mut [u64],
     list: &mut [u32],
     adj_offsets: &mut [u32],
-    adj_edge: &mut [u32],
-    adj_far: &mut [u32],
-    defects: &mut [u32],
-    seen: &mut [u32],
-    active: &mut [u32],
-    front: &mut [u32],
-    touched: &mut [u32],
-    cnt: &mut [u8],
-    fresh: &mut [u32],
-    order_edge: &mut [u32],
-    order_parent: &mut [u32],
-    lit: &mut [bool],
+    adj: &mut [[u32; 2]],
+    tree: &mut [[u32; 2]],
+    flags: &mut [[bool; 8]],
+    stacks: &mut [[u32; 6]],
+    links: &mut [[u32; 4]],
     growth: &mut [f64],
     sat: &mut [bool],
-    known: &mut [bool],
-    parent: &mut [u32],
-    odd: &mut [bool],
-    boundary_edge: &mut [u32],
-    hot: &mut [bool],
-    free: &mut [bool],
-    detectors: usize,
-    observables: usize,
-    edges: usize,
+    size: Size,
     edge_u: &[u32],
     edge_v: &[u32],
     edge_weight: &[f64],
@@ -672,57 +606,31 @@ pub extern "C" fn pavrenni_rate(
     true_shots: usize,
     true_width: usize,
 ) -> RateWords
-    ensures { λ r. ⌜ InWords wordsOfRate (λ a. Rates (compared (batched.handed (lentOf detectors observables edges (now («edge_u» .entry)) (now («edge_v» .entry)) (now («edge_weight» .entry)) (now («edge_obs» .entry))) (now (rows .entry)) shots width (now (out .entry)) (length (now (list .entry))) (lengthsOf (length (now («adj_offsets» .entry))) (length (now («adj_edge» .entry))) (length (now («adj_far» .entry))) (length (now (defects .entry))) (length (now (seen .entry))) (length (now (active .entry))) (length (now (front .entry))) (length (now (touched .entry))) (length (now (cnt .entry))) (length (now (fresh .entry))) (length (now («order_edge» .entry))) (length (now («order_parent» .entry))) (length (now (lit .entry))) (length (now (growth .entry))) (length (now (sat .entry))) (length (now (known .entry))) (length (now (parent .entry))) (length (now (odd .entry))) (length (now («boundary_edge» .entry))) (length (now (hot .entry))) (length (now (free .entry))))) (now (truth .entry)) «true_shots» «true_width») a (now (out .exit))) r ⌝ }
+    ensures { λ r. ⌜ InWords wordsOfRate (λ a. Rates (compared (batched.handed (lentBy size (now («edge_u» .entry)) (now («edge_v» .entry)) (now («edge_weight» .entry)) (now («edge_obs» .entry))) (now (rows .entry)) shots width (now (out .entry)) (length (now (list .entry))) (lengthsBy (now («adj_offsets» .entry)) (now (adj .entry)) (now (tree .entry)) (now (flags .entry)) (now (stacks .entry)) (now (links .entry)) (now (growth .entry)) (now (sat .entry)))) (now (truth .entry)) «true_shots» «true_width») a (now (out .exit))) r ⌝ }
 {
-    let graph = tabled::check_graph(
-        adj_offsets,
-        adj_edge,
-        adj_far,
-        detectors,
-        observables,
-        edges,
-        edge_u,
-        edge_v,
-        edge_weight,
-        edge_obs,
-    );
-    rate_words(rate::rate_clean(
+    rate_words(rate::logical_error_rate(
+        size.detectors,
+        size.observables,
+        size.edges,
         out,
         list,
-        defects,
-        seen,
-        active,
-        front,
-        touched,
-        cnt,
-        fresh,
-        order_edge,
-        order_parent,
-        lit,
+        adj_offsets,
+        adj,
+        tree,
+        flags,
+        stacks,
+        links,
         growth,
         sat,
-        known,
-        parent,
-        odd,
-        boundary_edge,
-        hot,
-        free,
-        detectors,
-        observables,
-        edges,
         edge_u,
         edge_v,
         edge_weight,
         edge_obs,
-        adj_offsets,
-        adj_edge,
-        adj_far,
         rows,
         shots,
         width,
         truth,
         true_shots,
         true_width,
-        graph,
     ))
 }

@@ -52,7 +52,7 @@ onlyThen Accepted x = x
 -- what the decoder is handed: the shot by its width D, and scratch for 256 detectors and 1,024 edges
 abbrev pub handedFor : ℕ → ℕ → ℕ → List ℕ → List ℕ → List Float → List ℕ → List ℕ → List ℕ → List ℕ → Handed
 handedFor D O n u v weight obs shot row list =
-    handed (lentOf D O n u v weight obs) shot D row list (lengthsOf 257 2048 2048 256 256 256 256 1025 1025 1024 256 256 256 1024 1024 256 256 256 256 256 256)
+    handed (lentOf D O n u v weight obs) shot D row list (lengthsOf 257 2048 256 256 256 1025 1024 1024)
 
 -- its checks, then the steps
 unfoldable pub decodedShot : Handed → List ℕ → Outcome

@@ -47,26 +47,13 @@ fn decode(
     ensures { λ r. ⌜ Decodes (handedFor detectors observables edges (now («edge_u» .entry)) (now («edge_v» .entry)) (now («edge_weight» .entry)) (now («edge_obs» .entry)) (now (shot .entry)) (now (row .entry)) (now (list .entry))) r (now (list .exit)) (now (row .exit)) ⌝ }
 {
     let mut adj_offsets = [0u32; 257];
-    let mut adj_edge = [0u32; 2048];
-    let mut adj_far = [0u32; 2048];
-    let mut defects = [0u32; 256];
-    let mut seen = [0u32; 256];
-    let mut active = [0u32; 256];
-    let mut front = [0u32; 256];
-    let mut touched = [0u32; 1025];
-    let mut cnt = [0u8; 1025];
-    let mut fresh = [0u32; 1024];
-    let mut order_edge = [0u32; 256];
-    let mut order_parent = [0u32; 256];
-    let mut lit = [false; 256];
+    let mut adj = [[0u32; 2]; 2048];
+    let mut tree = [[0u32; 2]; 256];
+    let mut flags = [[false; 8]; 256];
+    let mut stacks = [[0u32; 6]; 256];
+    let mut links = [[0u32; 4]; 1025];
     let mut growth = [0.0f64; 1024];
     let mut sat = [false; 1024];
-    let mut known = [false; 256];
-    let mut parent = [0u32; 256];
-    let mut odd = [false; 256];
-    let mut boundary_edge = [0u32; 256];
-    let mut hot = [false; 256];
-    let mut free = [false; 256];
     decoder::decode_shot(
         detectors,
         observables,
@@ -74,26 +61,13 @@ fn decode(
         row,
         list,
         &mut adj_offsets,
-        &mut adj_edge,
-        &mut adj_far,
-        &mut defects,
-        &mut seen,
-        &mut active,
-        &mut front,
-        &mut touched,
-        &mut cnt,
-        &mut fresh,
-        &mut order_edge,
-        &mut order_parent,
-        &mut lit,
+        &mut adj,
+        &mut tree,
+        &mut flags,
+        &mut stacks,
+        &mut links,
         &mut growth,
         &mut sat,
-        &mut known,
-        &mut parent,
-        &mut odd,
-        &mut boundary_edge,
-        &mut hot,
-        &mut free,
         edge_u,
         edge_v,
         edge_weight,

@@ -104,6 +104,9 @@ impl Stale for f64 {
 impl Stale for bool {
     const STALE: bool = true;
 }
+impl<T: Stale, const N: usize> Stale for [T; N] {
+    const STALE: [T; N] = [T::STALE; N];
+}
 
 /// A change of the vectors of a struct, by the name of the vector.
 pub type Change<T> = (&'static str, fn(&mut T));
@@ -132,20 +135,17 @@ macro_rules! fill_stale {
     };
 }
 
-/// The decoder's scratch slices, each one entry short.
+/// The decoder's scratch slices, each one entry or row short.
 pub fn short_scratch() -> Vec<Change<Scratch>> {
-    one_short!(Scratch: adj_offsets, adj_edge, adj_far, defects, seen, active, front, touched, cnt, fresh, order_edge, order_parent, lit, growth,
-        sat, known, parent, odd, boundary_edge, hot, free)
+    one_short!(Scratch: adj_offsets, adj, tree, flags, stacks, links, growth, sat)
 }
 
 pub fn lengthen_scratch(scratch: &mut Scratch) {
-    lengthen!(scratch; adj_offsets, adj_edge, adj_far, defects, seen, active, front, touched, cnt, fresh, order_edge, order_parent, lit, growth,
-        sat, known, parent, odd, boundary_edge, hot, free);
+    lengthen!(scratch; adj_offsets, adj, tree, flags, stacks, links, growth, sat);
 }
 
 pub fn fill_scratch(scratch: &mut Scratch) {
-    fill_stale!(scratch; adj_offsets, adj_edge, adj_far, defects, seen, active, front, touched, cnt, fresh, order_edge, order_parent, lit, growth,
-        sat, known, parent, odd, boundary_edge, hot, free);
+    fill_stale!(scratch; adj_offsets, adj, tree, flags, stacks, links, growth, sat);
 }
 
 /// A lent graph's tables, each one entry short.

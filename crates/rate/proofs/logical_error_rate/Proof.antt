@@ -1,102 +1,126 @@
--- `rate::logical_error_rate` meets its contract: the graph and the edges at each detector, then the call.
-use Prim.Native.Nat.{ℕ}
+-- `rate::logical_error_rate` meets its contract: a refusal leaves the output as it was; an accepted call is decoded over the edges at each detector, and its rows are compared.
+use mathlib.Core.Path.{refl, sym, _∙_}
+use native.Mathlib.Omega.{arith}
 use lib.ListN.{length}
+use Rattle.codes.specs.declared.Checked.the-variants.{Accepted, Refused}
 use Rattle.scratch.specs.Scratch.{lengthsOf}
 use Rattle.calls.specs.Call.{lentOf}
+use Rattle.tabled.proofs.Laws.{to-tabulate, longer}
 use Rattle.batch.specs.Batch.{handed}
+use Rattle.batch.proofs.Calls.{own-is, accepts, scratch, given-rows}
 use Rattle.rate.specs.Rate.{compared}
-use Rattle.rate.proofs.Calls.{still-rates}
+use Rattle.rate.proofs.Calls.{checks-by, refused, batch-accepted, comparable, rated}
 use borrow.Author.Needs.{needs}
 use Rattle.rate.proofs.logical_error_rate.Statement.{statement}
 use Rattle.rate.proofs.logical_error_rate.Tie as tie
 
-check-graph-requires : tie.Need-check-graph-requires
-check-graph-requires c κs = search needs
+own-long-requires : tie.Need-own-long-requires
+own-long-requires c κs = search needs
 
-rate-clean-requires : tie.Need-rate-clean-requires
-rate-clean-requires c κs = c .before .before .before .before .before .before .before .before .before .before .before .before .before .before .before .before .before .before .before .before .before .before .before .before .before .before .before .before .before .check-graph .ensures
+check-rate-requires : tie.Need-check-rate-requires
+check-rate-requires c κs = search needs
 
-same-length : tie.Need-same-length
-same-length c = c .before .before .before .before .before .before .before .before .before .before .before .before .before .before .before .before .before .before .before .before .before .before .before .before .before .before .before .before .before .before .before .before .before .before .before .before .before .before .before .before .rate-clean .kept .0
-
-same-length-2 : tie.Need-same-length-2
-same-length-2 c = c .before .before .before .before .before .before .before .before .before .before .before .before .before .before .before .before .before .before .before .before .before .before .before .before .before .before .before .before .before .before .before .before .before .before .before .before .before .before .before .before .rate-clean .kept .1 .0
-
-same-length-3 : tie.Need-same-length-3
-same-length-3 c = c .before .before .before .before .before .before .before .before .before .before .before .before .before .before .before .before .before .before .before .before .before .before .before .before .before .before .before .before .before .before .before .before .before .before .before .before .before .before .before .before .before .before .before .before .before .before .before .before .before .before .before .before .before .before .before .before .before .before .before .before .before .before .before .before .before .before .before .before .before .before .check-graph .kept .0
-
-same-length-4 : tie.Need-same-length-4
-same-length-4 c = c .before .before .before .before .before .before .before .before .before .before .before .before .before .before .before .before .before .before .before .before .before .before .before .before .before .before .before .before .before .before .before .before .before .before .before .before .before .before .before .before .before .before .before .before .before .before .before .before .before .before .before .before .before .before .before .before .before .before .before .before .before .before .before .before .before .before .before .before .before .before .check-graph .kept .1 .0
-
-same-length-5 : tie.Need-same-length-5
-same-length-5 c = c .before .before .before .before .before .before .before .before .before .before .before .before .before .before .before .before .before .before .before .before .before .before .before .before .before .before .before .before .before .before .before .before .before .before .before .before .before .before .before .before .before .before .before .before .before .before .before .before .before .before .before .before .before .before .before .before .before .before .before .before .before .before .before .before .before .before .before .before .before .before .check-graph .kept .1 .1 .0
-
-same-length-6 : tie.Need-same-length-6
-same-length-6 c = c .before .before .before .before .before .before .before .before .before .before .before .before .before .before .before .before .before .before .before .before .before .before .before .before .before .before .before .before .before .before .before .before .before .before .before .before .before .before .before .before .rate-clean .kept .1 .1 .0
-
-same-length-7 : tie.Need-same-length-7
-same-length-7 c = c .before .before .before .before .before .before .before .before .before .before .before .before .before .before .before .before .before .before .before .before .before .before .before .before .before .before .before .before .before .before .before .before .before .before .before .before .before .before .before .before .rate-clean .kept .1 .1 .1 .0
-
-same-length-8 : tie.Need-same-length-8
-same-length-8 c = c .before .before .before .before .before .before .before .before .before .before .before .before .before .before .before .before .before .before .before .before .before .before .before .before .before .before .before .before .before .before .before .before .before .before .before .before .before .before .before .before .rate-clean .kept .1 .1 .1 .1 .0
-
-same-length-9 : tie.Need-same-length-9
-same-length-9 c = c .before .before .before .before .before .before .before .before .before .before .before .before .before .before .before .before .before .before .before .before .before .before .before .before .before .before .before .before .before .before .before .before .before .before .before .before .before .before .before .before .rate-clean .kept .1 .1 .1 .1 .1 .0
-
-same-length-10 : tie.Need-same-length-10
-same-length-10 c = c .before .before .before .before .before .before .before .before .before .before .before .before .before .before .before .before .before .before .before .before .before .before .before .before .before .before .before .before .before .before .before .before .before .before .before .before .before .before .before .before .rate-clean .kept .1 .1 .1 .1 .1 .1 .0
-
-same-length-11 : tie.Need-same-length-11
-same-length-11 c = c .before .before .before .before .before .before .before .before .before .before .before .before .before .before .before .before .before .before .before .before .before .before .before .before .before .before .before .before .before .before .before .before .before .before .before .before .before .before .before .before .rate-clean .kept .1 .1 .1 .1 .1 .1 .1 .0
-
-same-length-12 : tie.Need-same-length-12
-same-length-12 c = c .before .before .before .before .before .before .before .before .before .before .before .before .before .before .before .before .before .before .before .before .before .before .before .before .before .before .before .before .before .before .before .before .before .before .before .before .before .before .before .before .rate-clean .kept .1 .1 .1 .1 .1 .1 .1 .1 .0
-
-same-length-13 : tie.Need-same-length-13
-same-length-13 c = c .before .before .before .before .before .before .before .before .before .before .before .before .before .before .before .before .before .before .before .before .before .before .before .before .before .before .before .before .before .before .before .before .before .before .before .before .before .before .before .before .rate-clean .kept .1 .1 .1 .1 .1 .1 .1 .1 .1 .0
-
-same-length-14 : tie.Need-same-length-14
-same-length-14 c = c .before .before .before .before .before .before .before .before .before .before .before .before .before .before .before .before .before .before .before .before .before .before .before .before .before .before .before .before .before .before .before .before .before .before .before .before .before .before .before .before .rate-clean .kept .1 .1 .1 .1 .1 .1 .1 .1 .1 .1 .0
-
-same-length-15 : tie.Need-same-length-15
-same-length-15 c = c .before .before .before .before .before .before .before .before .before .before .before .before .before .before .before .before .before .before .before .before .before .before .before .before .before .before .before .before .before .before .before .before .before .before .before .before .before .before .before .before .rate-clean .kept .1 .1 .1 .1 .1 .1 .1 .1 .1 .1 .1 .0
-
-same-length-16 : tie.Need-same-length-16
-same-length-16 c = c .before .before .before .before .before .before .before .before .before .before .before .before .before .before .before .before .before .before .before .before .before .before .before .before .before .before .before .before .before .before .before .before .before .before .before .before .before .before .before .before .rate-clean .kept .1 .1 .1 .1 .1 .1 .1 .1 .1 .1 .1 .1 .0
-
-same-length-17 : tie.Need-same-length-17
-same-length-17 c = c .before .before .before .before .before .before .before .before .before .before .before .before .before .before .before .before .before .before .before .before .before .before .before .before .before .before .before .before .before .before .before .before .before .before .before .before .before .before .before .before .rate-clean .kept .1 .1 .1 .1 .1 .1 .1 .1 .1 .1 .1 .1 .1 .0
-
-same-length-18 : tie.Need-same-length-18
-same-length-18 c = c .before .before .before .before .before .before .before .before .before .before .before .before .before .before .before .before .before .before .before .before .before .before .before .before .before .before .before .before .before .before .before .before .before .before .before .before .before .before .before .before .rate-clean .kept .1 .1 .1 .1 .1 .1 .1 .1 .1 .1 .1 .1 .1 .1 .0
-
-same-length-19 : tie.Need-same-length-19
-same-length-19 c = c .before .before .before .before .before .before .before .before .before .before .before .before .before .before .before .before .before .before .before .before .before .before .before .before .before .before .before .before .before .before .before .before .before .before .before .before .before .before .before .before .rate-clean .kept .1 .1 .1 .1 .1 .1 .1 .1 .1 .1 .1 .1 .1 .1 .1 .0
-
-same-length-20 : tie.Need-same-length-20
-same-length-20 c = c .before .before .before .before .before .before .before .before .before .before .before .before .before .before .before .before .before .before .before .before .before .before .before .before .before .before .before .before .before .before .before .before .before .before .before .before .before .before .before .before .rate-clean .kept .1 .1 .1 .1 .1 .1 .1 .1 .1 .1 .1 .1 .1 .1 .1 .1 .0
-
-same-length-21 : tie.Need-same-length-21
-same-length-21 c = c .before .before .before .before .before .before .before .before .before .before .before .before .before .before .before .before .before .before .before .before .before .before .before .before .before .before .before .before .before .before .before .before .before .before .before .before .before .before .before .before .rate-clean .kept .1 .1 .1 .1 .1 .1 .1 .1 .1 .1 .1 .1 .1 .1 .1 .1 .1 .0
-
-same-length-22 : tie.Need-same-length-22
-same-length-22 c = c .before .before .before .before .before .before .before .before .before .before .before .before .before .before .before .before .before .before .before .before .before .before .before .before .before .before .before .before .before .before .before .before .before .before .before .before .before .before .before .before .rate-clean .kept .1 .1 .1 .1 .1 .1 .1 .1 .1 .1 .1 .1 .1 .1 .1 .1 .1 .1 .0
-
-same-length-23 : tie.Need-same-length-23
-same-length-23 c = c .before .before .before .before .before .before .before .before .before .before .before .before .before .before .before .before .before .before .before .before .before .before .before .before .before .before .before .before .before .before .before .before .before .before .before .before .before .before .before .before .rate-clean .kept .1 .1 .1 .1 .1 .1 .1 .1 .1 .1 .1 .1 .1 .1 .1 .1 .1 .1 .1 .0
+enum-known-checked : tie.Need-enum-known-checked
+enum-known-checked c = search needs
 
 returns : tie.Need-returns
 returns c =
-    let args = c .before .before .before .before .before .before .before .before .before .before .before .before .before .before .before .before .before .before .before .before .before .before .before .before .before .before .before .before .before .before .before .before .before .before .before .before .before .before .before .before .before .before .before .before .before .before .before .before .before .before .before .before .before .before .before .before .before .before .before .before .before .before .before .before .before .before .before .before .before .before .before .before .before .before .before .before .before .before .before .before .before .before .before .before .before .before .before .before .before .before .before .before .before .before .before .before .before .before .before .before .before .before .before .args in
-    let check-graph = c .before .before .before .before .before .before .before .before .before .before .before .before .before .before .before .before .before .before .before .before .before .before .before .before .before .before .before .before .before .before .before .before .before .before .before .before .before .before .before .before .before .before .before .before .before .before .before .before .before .before .before .before .before .before .before .before .before .before .before .before .before .before .before .before .before .before .before .before .before .before .check-graph in
-    still-rates (λ (a b e : ℕ). compared (handed (lentOf (args .detectors) (args .observables) (args .edges) (args .edge-u .now) (args .edge-v .now) (args .edge-weight .now) (args .edge-obs .now)) (args .rows .now) (args .shots) (args .width) (args .out .now) (length (args .list .now)) (lengthsOf a b e (length (args .defects .now)) (length (args .seen .now)) (length (args .active .now)) (length (args .front .now)) (length (args .touched .now)) (length (args .cnt .now)) (length (args .fresh .now)) (length (args .order-edge .now)) (length (args .order-parent .now)) (length (args .lit .now)) (length (args .growth .now)) (length (args .sat .now)) (length (args .known .now)) (length (args .parent .now)) (length (args .odd .now)) (length (args .boundary-edge .now)) (length (args .hot .now)) (length (args .free .now)))) (args .truth .now) (args .true-shots) (args .true-width)) (check-graph .kept .0) (check-graph .kept .1 .0) (check-graph .kept .1 .1 .0) (c .before .before .before .before .before .before .before .before .before .before .before .before .before .before .before .before .before .before .before .before .before .before .before .before .before .before .before .before .before .before .before .before .before .before .before .before .before .before .before .before .rate-clean .ensures)
+    let args = c .before .before .before .before .before .before .before .before .before .before .before .before .before .before .before .before .args in
+    let own-long = c .before .before .before .before .own-long in
+    let h = (handed (lentOf (args .detectors) (args .observables) (args .edges) (args .edge-u .now) (args .edge-v .now) (args .edge-weight .now) (args .edge-obs .now)) (args .rows .now) (args .shots) (args .width) (args .out .now) (length (args .list .now)) (lengthsOf (length (args .adj-offsets .now)) (length (args .adj .now)) (length (args .tree .now)) (length (args .flags .now)) (length (args .stacks .now)) (length (args .links .now)) (length (args .growth .now)) (length (args .sat .now)))) in
+    let call = compared h (args .truth .now) (args .true-shots) (args .true-width) in
+    let no = checks-by call (own-long .result) (Refused (c .before .checked .given .0 .0)) (own-is h (own-long .ensures)) (sym (c .before .checked .given .1) ∙ c .before .before .before .check-rate .ensures) in
+    refused call no
+
+enum-told : tie.Need-enum-told
+enum-told c = search needs
+
+tabulate-requires : tie.Need-tabulate-requires
+tabulate-requires c κs =
+    let args = c .before .before .before .before .before .before .before .before .before .before .before .before .before .before .before .before .before .args in
+    let own-long = c .before .before .before .before .before .own-long in
+    let h = (handed (lentOf (args .detectors) (args .observables) (args .edges) (args .edge-u .now) (args .edge-v .now) (args .edge-weight .now) (args .edge-obs .now)) (args .rows .now) (args .shots) (args .width) (args .out .now) (length (args .list .now)) (lengthsOf (length (args .adj-offsets .now)) (length (args .adj .now)) (length (args .tree .now)) (length (args .flags .now)) (length (args .stacks .now)) (length (args .links .now)) (length (args .growth .now)) (length (args .sat .now)))) in
+    let call = compared h (args .truth .now) (args .true-shots) (args .true-width) in
+    let yes = checks-by call (own-long .result) Accepted (own-is h (own-long .ensures)) (sym (c .before .before .enum-told .given .1) ∙ c .before .before .before .before .check-rate .ensures) in
+    let b = batch-accepted call yes in
+    let k = accepts h b in
+    let s = scratch h b in
+    to-tabulate k (args .adj-offsets .now) (args .adj .now) (s .adj-offsets) (s .adj)
+
+decode-parts-requires : tie.Need-decode-parts-requires
+decode-parts-requires c κs =
+    let args = c .before .before .before .before .before .before .before .before .before .before .before .before .before .before .before .before .before .before .before .before .before .before .before .before .before .before .before .before .before .before .before .args in
+    let own-long = c .before .before .before .before .before .before .before .before .before .before .before .before .before .before .before .before .before .before .before .own-long in
+    let tabulate = c .before .before .before .before .before .before .before .before .before .before .before .before .before .tabulate in
+    let h = (handed (lentOf (args .detectors) (args .observables) (args .edges) (args .edge-u .now) (args .edge-v .now) (args .edge-weight .now) (args .edge-obs .now)) (args .rows .now) (args .shots) (args .width) (args .out .now) (length (args .list .now)) (lengthsOf (length (args .adj-offsets .now)) (length (args .adj .now)) (length (args .tree .now)) (length (args .flags .now)) (length (args .stacks .now)) (length (args .links .now)) (length (args .growth .now)) (length (args .sat .now)))) in
+    let call = compared h (args .truth .now) (args .true-shots) (args .true-width) in
+    let yes = checks-by call (own-long .result) Accepted (own-is h (own-long .ensures)) (sym (c .before .before .before .before .before .before .before .before .before .before .before .before .before .before .before .before .enum-told .given .1) ∙ c .before .before .before .before .before .before .before .before .before .before .before .before .before .before .before .before .before .before .check-rate .ensures) in
+    let b = batch-accepted call yes in
+    let k = accepts h b in
+    let s = scratch h b in
+    (longer k (tabulate .last .1 .1 .1 .1 .0) (tabulate .last .1 .1 .1 .1 .1 .0) (omega (arith, s .adj-offsets, tabulate .kept .1 .1 .1 .1 .0)) (tabulate .ensures), (given-rows h b (args .list .now) refl, (record { trees = s .tree; flagged = s .flags; growths = s .growth; sats = s .sat }, (s .stacks, s .links))))
+
+rate-answer-requires : tie.Need-rate-answer-requires
+rate-answer-requires c κs =
+    let args = c .before .before .before .before .before .before .before .before .before .before .before .before .before .before .before .before .before .before .before .before .before .before .before .before .before .before .before .before .before .before .before .before .before .before .before .before .before .before .before .before .before .before .before .before .before .args in
+    let own-long = c .before .before .before .before .before .before .before .before .before .before .before .before .before .before .before .before .before .before .before .before .before .before .before .before .before .before .before .before .before .before .before .before .before .own-long in
+    let decode-parts = c .before .before .before .before .before .before .before .before .before .before .before .before .before .decode-parts in
+    let h = (handed (lentOf (args .detectors) (args .observables) (args .edges) (args .edge-u .now) (args .edge-v .now) (args .edge-weight .now) (args .edge-obs .now)) (args .rows .now) (args .shots) (args .width) (args .out .now) (length (args .list .now)) (lengthsOf (length (args .adj-offsets .now)) (length (args .adj .now)) (length (args .tree .now)) (length (args .flags .now)) (length (args .stacks .now)) (length (args .links .now)) (length (args .growth .now)) (length (args .sat .now)))) in
+    let call = compared h (args .truth .now) (args .true-shots) (args .true-width) in
+    let yes = checks-by call (own-long .result) Accepted (own-is h (own-long .ensures)) (sym (c .before .before .before .before .before .before .before .before .before .before .before .before .before .before .before .before .before .before .before .before .before .before .before .before .before .before .before .before .before .before .enum-told .given .1) ∙ c .before .before .before .before .before .before .before .before .before .before .before .before .before .before .before .before .before .before .before .before .before .before .before .before .before .before .before .before .before .before .before .before .check-rate .ensures) in
+    comparable call yes (decode-parts .ensures) (decode-parts .kept .1 .1 .1 .1 .1 .1 .1 .1 .1 .1 .1 .0)
+
+same-length : tie.Need-same-length
+same-length c = c .before .before .before .before .before .before .before .before .before .before .before .before .before .before .decode-parts .kept .1 .1 .1 .1 .1 .1 .1 .1 .1 .1 .1 .0
+
+same-length-2 : tie.Need-same-length-2
+same-length-2 c = c .before .before .before .before .before .before .before .before .before .before .before .before .before .before .decode-parts .kept .1 .1 .1 .1 .1 .1 .1 .1 .1 .1 .1 .1 .0
+
+same-length-3 : tie.Need-same-length-3
+same-length-3 c = c .before .before .before .before .before .before .before .before .before .before .before .before .before .before .before .before .before .before .before .before .before .before .before .before .before .before .before .before .tabulate .kept .1 .1 .1 .1 .0
+
+same-length-4 : tie.Need-same-length-4
+same-length-4 c = c .before .before .before .before .before .before .before .before .before .before .before .before .before .before .before .before .before .before .before .before .before .before .before .before .before .before .before .before .tabulate .kept .1 .1 .1 .1 .1 .0
+
+same-length-5 : tie.Need-same-length-5
+same-length-5 c = c .before .before .before .before .before .before .before .before .before .before .before .before .before .before .decode-parts .kept .1 .1 .1 .1 .1 .1 .1 .1 .1 .1 .1 .1 .1 .0
+
+same-length-6 : tie.Need-same-length-6
+same-length-6 c = c .before .before .before .before .before .before .before .before .before .before .before .before .before .before .decode-parts .kept .1 .1 .1 .1 .1 .1 .1 .1 .1 .1 .1 .1 .1 .1 .0
+
+same-length-7 : tie.Need-same-length-7
+same-length-7 c = c .before .before .before .before .before .before .before .before .before .before .before .before .before .before .decode-parts .kept .1 .1 .1 .1 .1 .1 .1 .1 .1 .1 .1 .1 .1 .1 .1 .0
+
+same-length-8 : tie.Need-same-length-8
+same-length-8 c = c .before .before .before .before .before .before .before .before .before .before .before .before .before .before .decode-parts .kept .1 .1 .1 .1 .1 .1 .1 .1 .1 .1 .1 .1 .1 .1 .1 .1 .0
+
+same-length-9 : tie.Need-same-length-9
+same-length-9 c = c .before .before .before .before .before .before .before .before .before .before .before .before .before .before .decode-parts .kept .1 .1 .1 .1 .1 .1 .1 .1 .1 .1 .1 .1 .1 .1 .1 .1 .1 .0
+
+same-length-10 : tie.Need-same-length-10
+same-length-10 c = c .before .before .before .before .before .before .before .before .before .before .before .before .before .before .decode-parts .kept .1 .1 .1 .1 .1 .1 .1 .1 .1 .1 .1 .1 .1 .1 .1 .1 .1 .1 .0
+
+returns-2 : tie.Need-returns-2
+returns-2 c =
+    let args = c .before .before .before .before .before .before .before .before .before .before .before .before .before .before .before .before .before .before .before .before .before .before .before .before .before .before .before .before .before .before .before .before .before .before .before .before .before .before .before .before .before .before .before .before .before .before .args in
+    let own-long = c .before .before .before .before .before .before .before .before .before .before .before .before .before .before .before .before .before .before .before .before .before .before .before .before .before .before .before .before .before .before .before .before .before .before .own-long in
+    let h = (handed (lentOf (args .detectors) (args .observables) (args .edges) (args .edge-u .now) (args .edge-v .now) (args .edge-weight .now) (args .edge-obs .now)) (args .rows .now) (args .shots) (args .width) (args .out .now) (length (args .list .now)) (lengthsOf (length (args .adj-offsets .now)) (length (args .adj .now)) (length (args .tree .now)) (length (args .flags .now)) (length (args .stacks .now)) (length (args .links .now)) (length (args .growth .now)) (length (args .sat .now)))) in
+    let call = compared h (args .truth .now) (args .true-shots) (args .true-width) in
+    let yes = checks-by call (own-long .result) Accepted (own-is h (own-long .ensures)) (sym (c .before .before .before .before .before .before .before .before .before .before .before .before .before .before .before .before .before .before .before .before .before .before .before .before .before .before .before .before .before .before .before .enum-told .given .1) ∙ c .before .before .before .before .before .before .before .before .before .before .before .before .before .before .before .before .before .before .before .before .before .before .before .before .before .before .before .before .before .before .before .before .before .check-rate .ensures) in
+    rated call yes (c .before .before .before .before .before .before .before .before .before .before .before .before .before .before .decode-parts .ensures) (c .rate-answer .ensures)
 
 pub logical-error-rate-spec : {M : Type 1} → statement M
 logical-error-rate-spec =
     tie.close
     (tie.spec
-    check-graph-requires
-    rate-clean-requires
+    own-long-requires
+    check-rate-requires
+    enum-known-checked
+    returns
+    enum-told
+    tabulate-requires
+    decode-parts-requires
+    rate-answer-requires
     same-length
     same-length-2
     same-length-3
@@ -107,17 +131,4 @@ logical-error-rate-spec =
     same-length-8
     same-length-9
     same-length-10
-    same-length-11
-    same-length-12
-    same-length-13
-    same-length-14
-    same-length-15
-    same-length-16
-    same-length-17
-    same-length-18
-    same-length-19
-    same-length-20
-    same-length-21
-    same-length-22
-    same-length-23
-    returns)
+    returns-2)

@@ -7,6 +7,7 @@ use Rattle.codes.specs.declared.Checked.the-variants.{Accepted, Refused}
 use Rattle.codes.specs.Limits.{checkShots}
 use Rattle.steps.specs.Call.{checkEdges}
 use Rattle.lent.proofs.Limits.{limited}
+use Rattle.lent.proofs.Laws.{long}
 use Rattle.calls.specs.Call.{lentOf, graphIn, tablesIn}
 use Rattle.rate_checks.specs.Checks.{checkBoth}
 use Rattle.rate_checks.proofs.Checks.{rate-by}
@@ -71,18 +72,20 @@ returns-5 c =
     let args = c .before .before .before .before .before .before .before .before .before .before .before .before .before .before .before .before .before .before .args in
     rate-by (lentOf (args .detectors) (args .observables) (args .edges) (args .edge-u .now) (args .edge-v .now) (args .edge-weight .now) (args .edge-obs .now)) (args .long) (args .rows .now) (args .shots) (args .width) (args .truth .now) (args .true-shots) (args .true-width) Accepted Accepted Accepted (checkEdges (graphIn (lentOf (args .detectors) (args .observables) (args .edges) (args .edge-u .now) (args .edge-v .now) (args .edge-weight .now) (args .edge-obs .now))) (below (args .edges))) (checkBoth (args .detectors) (args .rows .now) (args .shots) (args .width) (args .truth .now) (args .true-shots) (args .true-width)) true false (sym (c .before .before .before .before .before .before .before .before .before .enum-told .given .1) ∙ c .before .before .before .before .before .before .before .before .before .before .before .check-counts .ensures) (sym (c .before .before .before .before .before .before .enum-told2 .given .1) ∙ c .before .before .before .before .before .before .before .before .check-shots .ensures) (sym (c .before .before .before .enum-told3 .given .1) ∙ c .before .before .before .before .before .check-shots2 .ensures) (sym (not-false _ (c .before .if1 .left)) ∙ c .before .before .tables-long .ensures) (sym (not-true _ (c .if2 .taken))) refl refl
 
+check-edges-requires : tie.Need-check-edges-requires
+check-edges-requires c κs =
+    let args = c .before .before .before .before .before .before .before .before .before .before .before .before .before .before .before .before .before .before .args in
+    let k = limited (args .detectors) (args .observables) (args .edges) (sym (sym (c .before .before .before .before .before .before .before .before .before .enum-told .given .1) ∙ c .before .before .before .before .before .before .before .before .before .before .before .check-counts .ensures)) in
+    let m = long (args .observables) (args .edges) (args .edge-u .now) (args .edge-v .now) (args .edge-weight .now) (args .edge-obs .now) (sym (sym (not-false _ (c .before .if1 .left)) ∙ c .before .before .tables-long .ensures)) in
+    (k .observables, k .few, m .ends, m .others, m .weights, m .rows)
+
 enum-known-graph : tie.Need-enum-known-graph
 enum-known-graph c = search needs
 
 returns-6 : tie.Need-returns-6
 returns-6 c =
-    let args = c .before .before .before .before .before .before .before .before .before .before .before .before .before .before .before .before .before .before .before .before .before .args in
-    let enum-told = c .before .before .before .before .before .before .before .before .before .before .before .before .enum-told in
-    let check-counts = c .before .before .before .before .before .before .before .before .before .before .before .before .before .before .check-counts in
-    let if1 = c .before .before .before .before .if1 in
-    let tables-long = c .before .before .before .before .before .tables-long in
-    let if2 = c .before .before .before .if2 in
-    rate-by (lentOf (args .detectors) (args .observables) (args .edges) (args .edge-u .now) (args .edge-v .now) (args .edge-weight .now) (args .edge-obs .now)) (args .long) (args .rows .now) (args .shots) (args .width) (args .truth .now) (args .true-shots) (args .true-width) Accepted Accepted Accepted (Refused (c .before .graph .given .0 .0)) (checkBoth (args .detectors) (args .rows .now) (args .shots) (args .width) (args .truth .now) (args .true-shots) (args .true-width)) true true (sym (enum-told .given .1) ∙ check-counts .ensures) (sym (c .before .before .before .before .before .before .before .before .before .enum-told2 .given .1) ∙ c .before .before .before .before .before .before .before .before .before .before .before .check-shots .ensures) (sym (c .before .before .before .before .before .before .enum-told3 .given .1) ∙ c .before .before .before .before .before .before .before .before .check-shots2 .ensures) (sym (not-false _ (if1 .left)) ∙ tables-long .ensures) (sym (not-false _ (if2 .left))) (sym (c .before .graph .given .1) ∙ (c .before .before .before .before .before .before .before .before .before .before .before .before .before .before .before .before .before .before .before .before .before .pre (sym (sym (enum-told .given .1) ∙ check-counts .ensures)) (sym (sym (not-false _ (if1 .left)) ∙ tables-long .ensures)) (not-false _ (if2 .left)))) refl
+    let args = c .before .before .before .before .before .before .before .before .before .before .before .before .before .before .before .before .before .before .before .before .before .before .args in
+    rate-by (lentOf (args .detectors) (args .observables) (args .edges) (args .edge-u .now) (args .edge-v .now) (args .edge-weight .now) (args .edge-obs .now)) (args .long) (args .rows .now) (args .shots) (args .width) (args .truth .now) (args .true-shots) (args .true-width) Accepted Accepted Accepted (Refused (c .before .graph .given .0 .0)) (checkBoth (args .detectors) (args .rows .now) (args .shots) (args .width) (args .truth .now) (args .true-shots) (args .true-width)) true true (sym (c .before .before .before .before .before .before .before .before .before .before .before .before .before .enum-told .given .1) ∙ c .before .before .before .before .before .before .before .before .before .before .before .before .before .before .before .check-counts .ensures) (sym (c .before .before .before .before .before .before .before .before .before .before .enum-told2 .given .1) ∙ c .before .before .before .before .before .before .before .before .before .before .before .before .check-shots .ensures) (sym (c .before .before .before .before .before .before .before .enum-told3 .given .1) ∙ c .before .before .before .before .before .before .before .before .before .check-shots2 .ensures) (sym (not-false _ (c .before .before .before .before .before .if1 .left)) ∙ c .before .before .before .before .before .before .tables-long .ensures) (sym (not-false _ (c .before .before .before .before .if2 .left))) (sym (c .before .graph .given .1) ∙ c .before .before .before .check-edges .ensures) refl
 
 enum-told-4 : tie.Need-enum-told-4
 enum-told-4 c = search needs
@@ -92,13 +95,8 @@ check-both-requires c κs = search needs
 
 returns-7 : tie.Need-returns-7
 returns-7 c =
-    let args = c .before .before .before .before .before .before .before .before .before .before .before .before .before .before .before .before .before .before .before .before .before .args in
-    let enum-told = c .before .before .before .before .before .before .before .before .before .before .before .before .enum-told in
-    let check-counts = c .before .before .before .before .before .before .before .before .before .before .before .before .before .before .check-counts in
-    let if1 = c .before .before .before .before .if1 in
-    let tables-long = c .before .before .before .before .before .tables-long in
-    let if2 = c .before .before .before .if2 in
-    rate-by (lentOf (args .detectors) (args .observables) (args .edges) (args .edge-u .now) (args .edge-v .now) (args .edge-weight .now) (args .edge-obs .now)) (args .long) (args .rows .now) (args .shots) (args .width) (args .truth .now) (args .true-shots) (args .true-width) Accepted Accepted Accepted Accepted (c .check-both .result) true true (sym (enum-told .given .1) ∙ check-counts .ensures) (sym (c .before .before .before .before .before .before .before .before .before .enum-told2 .given .1) ∙ c .before .before .before .before .before .before .before .before .before .before .before .check-shots .ensures) (sym (c .before .before .before .before .before .before .enum-told3 .given .1) ∙ c .before .before .before .before .before .before .before .before .check-shots2 .ensures) (sym (not-false _ (if1 .left)) ∙ tables-long .ensures) (sym (not-false _ (if2 .left))) (sym (c .before .enum-told4 .given .1) ∙ (c .before .before .before .before .before .before .before .before .before .before .before .before .before .before .before .before .before .before .before .before .before .pre (sym (sym (enum-told .given .1) ∙ check-counts .ensures)) (sym (sym (not-false _ (if1 .left)) ∙ tables-long .ensures)) (not-false _ (if2 .left)))) (c .check-both .ensures)
+    let args = c .before .before .before .before .before .before .before .before .before .before .before .before .before .before .before .before .before .before .before .before .before .before .args in
+    rate-by (lentOf (args .detectors) (args .observables) (args .edges) (args .edge-u .now) (args .edge-v .now) (args .edge-weight .now) (args .edge-obs .now)) (args .long) (args .rows .now) (args .shots) (args .width) (args .truth .now) (args .true-shots) (args .true-width) Accepted Accepted Accepted Accepted (c .check-both .result) true true (sym (c .before .before .before .before .before .before .before .before .before .before .before .before .before .enum-told .given .1) ∙ c .before .before .before .before .before .before .before .before .before .before .before .before .before .before .before .check-counts .ensures) (sym (c .before .before .before .before .before .before .before .before .before .before .enum-told2 .given .1) ∙ c .before .before .before .before .before .before .before .before .before .before .before .before .check-shots .ensures) (sym (c .before .before .before .before .before .before .before .enum-told3 .given .1) ∙ c .before .before .before .before .before .before .before .before .before .check-shots2 .ensures) (sym (not-false _ (c .before .before .before .before .before .if1 .left)) ∙ c .before .before .before .before .before .before .tables-long .ensures) (sym (not-false _ (c .before .before .before .before .if2 .left))) (sym (c .before .enum-told4 .given .1) ∙ c .before .before .before .check-edges .ensures) (c .check-both .ensures)
 
 pub check-rate-spec : {M : Type 1} → statement M
 check-rate-spec =
@@ -119,6 +117,7 @@ check-rate-spec =
     tables-long-requires
     returns-4
     returns-5
+    check-edges-requires
     enum-known-graph
     returns-6
     enum-told-4

@@ -2,49 +2,16 @@
 use mathlib.Core.Path.{sym, _∙_}
 use mathlib.Core.Bool.{true, false}
 use borrow.Author.Tests.{not-true, not-false}
-use Rattle.tabled.proofs.Tests.{rest-tests}
+use Rattle.tabled.proofs.Tests.{slices-tests}
 use borrow.Author.Needs.{needs}
 use Rattle.tabled.proofs.own_long.Statement.{statement}
 use Rattle.tabled.proofs.own_long.Tie as tie
 
+long-requires : tie.Need-long-requires
+long-requires c κs = search needs
+
 fits-requires : tie.Need-fits-requires
 fits-requires c κs = search needs
-
-fits-requires-2 : tie.Need-fits-requires-2
-fits-requires-2 c κs = search needs
-
-fits-requires-3 : tie.Need-fits-requires-3
-fits-requires-3 c κs = search needs
-
-fits-past-requires : tie.Need-fits-past-requires
-fits-past-requires c κs = search needs
-
-fits-past-requires-2 : tie.Need-fits-past-requires-2
-fits-past-requires-2 c κs = search needs
-
-fits-requires-4 : tie.Need-fits-requires-4
-fits-requires-4 c κs = search needs
-
-fits-requires-5 : tie.Need-fits-requires-5
-fits-requires-5 c κs = search needs
-
-fits-requires-6 : tie.Need-fits-requires-6
-fits-requires-6 c κs = search needs
-
-fits-requires-7 : tie.Need-fits-requires-7
-fits-requires-7 c κs = search needs
-
-fits-requires-8 : tie.Need-fits-requires-8
-fits-requires-8 c κs = search needs
-
-fits-requires-9 : tie.Need-fits-requires-9
-fits-requires-9 c κs = search needs
-
-fits-past-requires-3 : tie.Need-fits-past-requires-3
-fits-past-requires-3 c κs = search needs
-
-fits-requires-10 : tie.Need-fits-requires-10
-fits-requires-10 c κs = search needs
 
 words-requires : tie.Need-words-requires
 words-requires c κs = search needs
@@ -54,34 +21,17 @@ rows-fit-requires c κs = search needs
 
 returns : tie.Need-returns
 returns c =
-    let args = c .before .before .before .before .before .before .before .before .before .before .before .before .before .before .before .before .args in
+    let args = c .before .before .before .before .before .args in
     let words = c .before .before .words in
-    rest-tests (args .detectors) (args .observables) (args .edges) (args .shots) (words .result) (args .out) (args .list) (args .adj-offsets) (args .adj-edge) (args .adj-far) (args .defects) (args .seen) (args .active) (args .front) (args .touched) (args .cnt) (args .fresh) (args .order-edge) (args .order-parent) false (args .rest) (words .ensures) (c .before .before .before .before .before .before .before .before .before .before .before .before .before .before .before .fits2 .ensures) (c .before .before .before .before .before .before .before .before .before .before .before .before .before .before .fits3 .ensures) (c .before .before .before .before .before .before .before .before .before .before .before .before .before .fits4 .ensures) (c .before .before .before .before .before .before .before .before .before .before .before .before .fits-past .ensures) (c .before .before .before .before .before .before .before .before .before .before .before .fits-past2 .ensures) (c .before .before .before .before .before .before .before .before .before .before .fits5 .ensures) (c .before .before .before .before .before .before .before .before .before .fits6 .ensures) (c .before .before .before .before .before .before .before .before .fits7 .ensures) (c .before .before .before .before .before .before .before .fits8 .ensures) (c .before .before .before .before .before .before .fits9 .ensures) (c .before .before .before .before .before .fits10 .ensures) (c .before .before .before .before .fits-past3 .ensures) (c .before .before .before .fits11 .ensures) (sym (not-true _ (c .if1 .taken)) ∙ c .before .rows-fit .ensures)
+    slices-tests (args .detectors) (args .observables) (args .edges) (args .shots) (words .result) (args .out) (args .list) (args .have) false (words .ensures) (c .before .before .before .before .long .ensures) (c .before .before .before .fits2 .ensures) (sym (not-true _ (c .if1 .taken)) ∙ c .before .rows-fit .ensures)
 
 returns-2 : tie.Need-returns-2
 returns-2 c =
-    let args = c .before .before .before .before .before .before .before .before .before .before .before .before .before .before .before .before .args in
+    let args = c .before .before .before .before .before .args in
     let words = c .before .before .words in
-    rest-tests (args .detectors) (args .observables) (args .edges) (args .shots) (words .result) (args .out) (args .list) (args .adj-offsets) (args .adj-edge) (args .adj-far) (args .defects) (args .seen) (args .active) (args .front) (args .touched) (args .cnt) (args .fresh) (args .order-edge) (args .order-parent) true (args .rest) (words .ensures) (c .before .before .before .before .before .before .before .before .before .before .before .before .before .before .before .fits2 .ensures) (c .before .before .before .before .before .before .before .before .before .before .before .before .before .before .fits3 .ensures) (c .before .before .before .before .before .before .before .before .before .before .before .before .before .fits4 .ensures) (c .before .before .before .before .before .before .before .before .before .before .before .before .fits-past .ensures) (c .before .before .before .before .before .before .before .before .before .before .before .fits-past2 .ensures) (c .before .before .before .before .before .before .before .before .before .before .fits5 .ensures) (c .before .before .before .before .before .before .before .before .before .fits6 .ensures) (c .before .before .before .before .before .before .before .before .fits7 .ensures) (c .before .before .before .before .before .before .before .fits8 .ensures) (c .before .before .before .before .before .before .fits9 .ensures) (c .before .before .before .before .before .fits10 .ensures) (c .before .before .before .before .fits-past3 .ensures) (c .before .before .before .fits11 .ensures) (sym (not-false _ (c .if1 .left)) ∙ c .before .rows-fit .ensures)
+    slices-tests (args .detectors) (args .observables) (args .edges) (args .shots) (words .result) (args .out) (args .list) (args .have) true (words .ensures) (c .before .before .before .before .long .ensures) (c .before .before .before .fits2 .ensures) (sym (not-false _ (c .if1 .left)) ∙ c .before .rows-fit .ensures)
 
 pub own-long-spec : {M : Type 1} → statement M
 own-long-spec =
     tie.close
-    (tie.spec
-    fits-requires
-    fits-requires-2
-    fits-requires-3
-    fits-past-requires
-    fits-past-requires-2
-    fits-requires-4
-    fits-requires-5
-    fits-requires-6
-    fits-requires-7
-    fits-requires-8
-    fits-requires-9
-    fits-past-requires-3
-    fits-requires-10
-    words-requires
-    rows-fit-requires
-    returns
-    returns-2)
+    (tie.spec long-requires fits-requires words-requires rows-fit-requires returns returns-2)
