@@ -12,17 +12,6 @@ pub const OTHER: usize = 1;
 
 const BOUNDARY: u32 = 4294967295;
 
-// Every entry becomes 0.
-fn clear(adj_offsets: &mut [u32])
-    ensures { λ _. ⌜ now («adj_offsets» .exit) ≡ replicate (length (now («adj_offsets» .entry))) 0 ⌝ }
-{
-    let mut i = 0;
-    while i < adj_offsets.len() {
-        adj_offsets[i] = 0;
-        i += 1;
-    }
-}
-
 // Counts the edges at each detector.
 fn degrees(d: usize, edge_u: &[u32], edge_v: &[u32], adj_offsets: &mut [u32])
     requires { ⌜ Sized d (now «edge_u») (now «edge_v») (now «adj_offsets») ⌝ }
@@ -102,7 +91,7 @@ pub fn adjacency(
     requires { ⌜ 2 * length (now «edge_u») ≤ length (now adj) ⌝ }
     ensures { λ _. ⌜ Adjacent d (now («edge_u» .entry)) (now («edge_v» .entry)) (now («adj_offsets» .exit)) (near (now (adj .exit))) (away (now (adj .exit))) ⌝ }
 {
-    clear(adj_offsets);
+    tables::fill_u32(adj_offsets, 0);
     degrees(d, edge_u, edge_v, adj_offsets);
     sums(d, edge_u, edge_v, adj_offsets);
     fill(d, edge_u, edge_v, adj_offsets, adj);

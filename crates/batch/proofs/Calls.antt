@@ -17,10 +17,10 @@ use Rattle.codes.specs.declared.Checked.the-variants.{Accepted, Refused}
 use Rattle.scratch.specs.Scratch.{scratchLong}
 use Rattle.scratch.specs.Laws.{Long}
 use Rattle.scratch.proofs.Laws.{scratch-long}
-use Rattle.calls.specs.Call.{graphIn, checkCall}
-use Rattle.calls.specs.Laws.{Accepts}
-use Rattle.calls.proofs.Laws.{call-accepted}
-use Rattle.tabled.specs.Long.{slicesLong}
+use Rattle.lent_graph.specs.Call.{graphIn, checkCall}
+use Rattle.lent_graph.specs.Accepts.{Accepts}
+use Rattle.lent_graph.proofs.Accepts.{call-accepted}
+use Rattle.own_slices.specs.Long.{slicesLong}
 use Rattle.batch_rows.specs.Rows.{checkShotsOf, rowsOf, GivenRows}
 use Rattle.batch.specs.Batch.{Handed, ownLong, checks, Decodes}
 

@@ -13,7 +13,7 @@ use Rattle.codes.specs.declared.Checked.the-variants.{Accepted, Refused}
 use Rattle.codes.specs.Order.{andThen}
 use Rattle.scratch.specs.declared.Lengths.{Lengths}
 use Rattle.scratch.specs.Scratch.{scratchLong}
-use Rattle.calls.specs.Call.{Lent, graphIn, checkCall}
+use Rattle.lent_graph.specs.Call.{Lent, graphIn, checkCall}
 use Rattle.batch_rows.specs.Rows.{checkShotsOf, rowsOf}
 
 -- what a batch is handed: a graph, packed shots and their width, the output rows, the length of the list that it works in, and scratch slices by their lengths

@@ -3,7 +3,7 @@ use codes::Checked;
 use scratch::Lengths;
 ghost use lib.ListN.{length};
 ghost use Rattle.scratch.specs.Scratch.{lengthsOf};
-ghost use Rattle.calls.specs.Call.{lentOf};
+ghost use Rattle.lent_graph.specs.Call.{lentOf};
 ghost use Rattle.batch.specs.Batch.{handed, Decodes};
 
 // The graph is checked and its edges at each detector worked out once. Long for its parameters, one a line.
@@ -41,7 +41,7 @@ pub fn decode_batch(
         growth: growth.len(),
         sat: sat.len(),
     };
-    let long = tabled::own_long(
+    let long = own_slices::own_long(
         detectors,
         observables,
         edges,
@@ -50,7 +50,7 @@ pub fn decode_batch(
         list.len(),
         have,
     );
-    let checked = calls::check_call(
+    let checked = lent_graph::check_call(
         detectors,
         observables,
         edges,
@@ -67,7 +67,7 @@ pub fn decode_batch(
         return Checked::Refused(r);
     }
     adjacency::tabulate(detectors, edges, edge_u, edge_v, adj_offsets, adj);
-    batch_rows::decode_parts(
+    batch_rows::reset_and_decode_rows(
         detectors,
         observables,
         edges,

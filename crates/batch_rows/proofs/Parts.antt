@@ -14,7 +14,7 @@ use Rattle.steps.specs.Graph.{Graph}
 use Rattle.steps.specs.Rows.{zeros}
 use Rattle.steps.specs.Shot.{decode, rowLeft}
 use Rattle.steps.specs.Call.{graphOf, litOf}
-use Rattle.shot_answer.specs.Shots.{Given, graphIn, decodeIn}
+use Rattle.shot.specs.Shots.{Given, graphIn, decodeIn}
 use Rattle.batch_rows.specs.Row.{putRow, shotAt, rowFor, GivenRow}
 use Rattle.batch_rows.proofs.Put.{put-part}
 

@@ -8,9 +8,9 @@ use Rattle.codes.specs.declared.Checked.{Checked}
 use Rattle.steps.specs.Graph.{Graph}
 use Rattle.steps.specs.Call.{graphOf}
 use Rattle.adjacency.proofs.Parts.{part}
-use Rattle.shot_answer.specs.Shots.{graphIn}
-use Rattle.shots.specs.Longer.{Longer}
-use Rattle.shots.proofs.Longer.{graph-part}
+use Rattle.shot.specs.Shots.{graphIn}
+use Rattle.shot.specs.Longer.{Longer}
+use Rattle.shot.proofs.Longer.{graph-part}
 use Rattle.batch_rows.specs.Rows.{checkShotsOf, rowsOf}
 
 pub parted : {d o n : ℕ} {u v : List ℕ} {weight : List Float} {obs off : List ℕ} {adj : List (List ℕ)} → Longer d o n u v weight obs off adj → (rows out : List ℕ) (shots : ℕ) {r : Checked} {out′ : List ℕ}

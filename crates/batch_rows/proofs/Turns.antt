@@ -1,13 +1,13 @@
 -- A turn of the batch: the answer from the next shot on is the answer from this one on.
-use Prim.Native.Nat.{ℕ, suc, _+_, _-_, _≤_, _<_}
-use native.Mathlib.Numerals.{add-one}
+use Prim.Native.Nat.{ℕ, _+_, _-_, _≤_, _<_}
 use native.Mathlib.Omega.{arith}
 use mathlib.Core.Path.{_≡_, sym, ap, _∙_}
-use mathlib.Core.List.{List, [], _∷_}
+use mathlib.Core.List.{List}
 use mathlib.Core.Bool.{Bool}
 use lib.Ieee.{Float}
 use lib.ListN.{length}
 use Rattle.lists.specs.Lists.{from}
+use Rattle.lists.proofs.Ranges.{left-one, left-none}
 use Rattle.bits.specs.Rows.{words}
 use Rattle.codes.specs.declared.Refusal.the-variants.{Stuck}
 use Rattle.codes.specs.declared.Checked.the-variants.{Accepted, Refused}
@@ -17,10 +17,10 @@ use Rattle.steps.specs.Call.{graphOf}
 use Rattle.columns.specs.Columns.{Wide}
 use Rattle.columns.proofs.Columns.{column-length}
 use Rattle.cells.specs.Tables.{Words, Flags, parents, exits, lits, knowns, odds, hots, frees, defects, seen, active, front, orderEdge, orderParent, touched, cnt, fresh}
-use Rattle.cleaning.specs.Clean.{Clean}
-use Rattle.shot_answer.specs.declared.Shot.{Shot}
-use Rattle.shot_answer.specs.declared.Shot.the-variants as shot
-use Rattle.shot_answer.specs.Shots.{Places, graphIn, shotOf}
+use Rattle.rest.specs.Clean.{Clean}
+use Rattle.shot.specs.declared.Shot.{Shot}
+use Rattle.shot.specs.declared.Shot.the-variants as shot
+use Rattle.shot.specs.Shots.{Places, graphIn, shotOf}
 use Rattle.batch_rows.specs.Ready.{Ready}
 use Rattle.batch_rows.specs.Row.{putRow, shotAt, rowFor, GivenRow}
 use Rattle.batch_rows.proofs.Put.{row-inside}
@@ -35,20 +35,6 @@ stuck-is (corrected n list) e = absurd (let z : _≡_ {A = ℕ} 0 1 = cc in omeg
 pub decoded-is : (x : Decoded) {n len : ℕ} → shot.Decoded n len ≡ shotOf x → (list : List ℕ) × (x ≡ corrected n list)
 decoded-is (impossible n d) e = absurd (let z : _≡_ {A = ℕ} 0 1 = cc in omega arith)
 decoded-is (corrected n list) e = (list, cc)
-
--- ---- the shots from shot s on
-
-pub left-one : (shots s : ℕ) → s < shots → from (shots - s) s ≡ s ∷ from (shots - (s + 1)) (s + 1)
-unfolding from
-left-one shots s h =
-    let e : shots - s ≡ suc (shots - (s + 1)) = omega arith in
-    rw (e, add-one s)
-
-pub left-none : (shots s : ℕ) → shots ≤ s → from (shots - s) s ≡ []
-unfolding from
-left-none shots s h =
-    let e : shots - s ≡ 0 = omega arith in
-    rw e
 
 module _ (g : Graph) (rows out : List ℕ) (shots s : ℕ) where
   pub end-answer : shots ≤ s → Accepted ≡ checkShotsOf g rows (from (shots - s) s)

@@ -6,7 +6,7 @@ use lib.ListN.{length}
 use lib.Ieee.{Float}
 use Rattle.columns.specs.Columns.{Wide}
 use Rattle.cells.specs.Tables.{Words, Flags}
-use Rattle.resets.specs.Rows.{Rested}
+use Rattle.rest.specs.Rows.{Rested}
 
 -- of d detectors and E edges, at rest, with rows for the stacks and the links whose contents are free
 pub record Ready (d E : ℕ) (tree : Words) (flags : Flags) (stacks links : Words) (growth : List Float) (sat : List Bool) : Type 0 where

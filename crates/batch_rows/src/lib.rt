@@ -1,7 +1,7 @@
 // The shots of a batch decoded one after another, each into its row of the output: document 01, "Packed shots and rows".
 use codes::Checked;
 use codes::Refusal;
-use shot_answer::Shot;
+use shot::Shot;
 ghost use Prim.Native.Nat.{_<_, _≤_};
 ghost use mathlib.Core.Path.{_≡_};
 ghost use lib.ListN.{length};
@@ -11,9 +11,9 @@ ghost use Rattle.steps.specs.Rows.{zeros};
 ghost use Rattle.steps.specs.Shot.{rowLeft};
 ghost use Rattle.steps.specs.Call.{graphOf};
 ghost use Rattle.adjacency.specs.Pairs.{near, away};
-ghost use Rattle.shot_answer.specs.Shots.{Tables, Given, graphIn, decodeIn, shotOf};
-ghost use Rattle.resets.specs.Rows.{Spaces};
-ghost use Rattle.shots.specs.Longer.{Longer};
+ghost use Rattle.shot.specs.Shots.{Tables, Given, graphIn, decodeIn, shotOf};
+ghost use Rattle.rest.specs.Rows.{Spaces};
+ghost use Rattle.shot.specs.Longer.{Longer};
 ghost use Rattle.batch_rows.specs.Ready.{Ready};
 ghost use Rattle.batch_rows.specs.Row.{putRow, shotAt, rowFor, GivenRow};
 ghost use Rattle.batch_rows.specs.Rows.{checkShotsOf, rowsOf, GivenRows};
@@ -46,15 +46,15 @@ fn decode_row(
     ensures rows { λ _. ⌜ now (row .exit) ≡ rowLeft (graphIn detectors observables (now («edge_u» .entry)) (now («edge_v» .entry)) (now («edge_weight» .entry)) (now («edge_obs» .entry))) (zeros (graphIn detectors observables (now («edge_u» .entry)) (now («edge_v» .entry)) (now («edge_weight» .entry)) (now («edge_obs» .entry)))) (decodeIn detectors observables (now («edge_u» .entry)) (now («edge_v» .entry)) (now («edge_weight» .entry)) (now («edge_obs» .entry)) (now (shot .entry))) ⌝ }
     ensures rests { λ _. ⌜ Ready detectors (length (now («edge_u» .entry))) (now (tree .exit)) (now (flags .exit)) (now (stacks .exit)) (now (links .exit)) (now (growth .exit)) (now (sat .exit)) ⌝ }
 {
-    fills::fill_u64(row, 0);
-    let blank = shots::is_blank(shot);
+    tables::fill_u64(row, 0);
+    let blank = shot::is_blank(shot);
     if blank {
         return Shot::Decoded {
             rounds: 0,
             length: 0,
         };
     }
-    shots::decode_clean(
+    shot::decode_clean(
         detectors,
         observables,
         edge_u,
@@ -192,7 +192,7 @@ fn decode_rows(
 }
 
 // The tables put to rest, whatever they held, and the shots decoded. Of slices that may be longer than the counts need the first entries are lent. Long for its parameters, one a line.
-pub fn decode_parts(
+pub fn reset_and_decode_rows(
     detectors: usize,
     observables: usize,
     edges: usize,
@@ -220,7 +220,7 @@ pub fn decode_parts(
     ensures answers { λ r. ⌜ r ≡ checkShotsOf (graphOf detectors observables edges (now («edge_u» .entry)) (now («edge_v» .entry)) (now («edge_weight» .entry)) (now («edge_obs» .entry))) (now (rows .entry)) (below shots) ⌝ }
     ensures rows { λ _. ⌜ now (out .exit) ≡ rowsOf (graphOf detectors observables edges (now («edge_u» .entry)) (now («edge_v» .entry)) (now («edge_weight» .entry)) (now («edge_obs» .entry))) (now (rows .entry)) (below shots) (now (out .entry)) ⌝ }
 {
-    resets::reset(detectors, edges, tree, flags, growth, sat);
+    rest::reset(detectors, edges, tree, flags, growth, sat);
     columns::stack_rows(stacks);
     columns::link_rows(links);
     let offsets = detectors + 1;

@@ -12,14 +12,14 @@ use Rattle.codes.specs.Limits.{checkCounts}
 use Rattle.dem.specs.Model.{checkModel}
 use Rattle.dem.specs.Tables.{modelOf, tablesHold, tablesWritten}
 use Rattle.dem.specs.Decompose.{decompose}
-use Rattle.decomposed.specs.Call.{outcome as decomposition}
+use Rattle.decompose.specs.Call.{outcome as decomposition}
 use Rattle.weight.specs.Weight.{weightAt, logarithm, series, sumAt, steps, coefficient}
-use Rattle.graph.specs.Compile.{compile, graphBy}
-use Rattle.graph.specs.Tables.{flat}
+use Rattle.edges.specs.Compile.{compile, graphBy}
+use Rattle.edges.specs.Tables.{flat}
 use Rattle.graph.specs.Outcome as Outcome
 use Rattle.graph.specs.Outcome.{outcome, tableLeft}
 use Rattle.scratch.specs.Scratch.{lengthsFor}
-use Rattle.calls.specs.Call.{checkCall}
+use Rattle.lent_graph.specs.Call.{checkCall}
 use Rattle.marker.specs.Answer.{markerLong}
 use Rattle.decoder.specs.Answer.{checks, answerOf, listAfter, rowAfter}
 use Rattle.cases.specs.Table.{both-edges, pair-only, shotOf, Decomposing, Compiling, Decoder, Marker, Table}

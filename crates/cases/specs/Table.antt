@@ -13,18 +13,18 @@ use Rattle.steps.specs.Cases.{quarter-weight}
 use Rattle.dem.specs.Tables.{Tables}
 use Rattle.dem.specs.Positions.{tables}
 use Rattle.dem.specs.Cases.{three-eighths}
-use Rattle.decompose.specs.declared.Counts.{Counts}
-use Rattle.decomposed.specs.declared.Scratch.{Scratch}
-use Rattle.decomposed.specs.declared.Decomposed.{Decomposed}
-use Rattle.decomposed.specs.declared.Decomposed.the-variants as decomposed
-use Rattle.decomposed.specs.Call.{outcome as decomposition, Decomposes}
-use Rattle.graph.specs.Cases.{quarter, eighth}
-use Rattle.graph.specs.Tables.{Slices, slices}
+use Rattle.split_model.specs.declared.Counts.{Counts}
+use Rattle.decompose.specs.declared.Scratch.{Scratch}
+use Rattle.decompose.specs.declared.Decomposed.{Decomposed}
+use Rattle.decompose.specs.declared.Decomposed.the-variants as decomposed
+use Rattle.decompose.specs.Call.{outcome as decomposition, Decomposes}
+use Rattle.edges.specs.Cases.{quarter, eighth}
+use Rattle.edges.specs.Tables.{Slices, slices}
 use Rattle.graph.specs.Outcome.{outcome, Compiles}
 use Rattle.graph.specs.declared.Compiled.{Compiled}
 use Rattle.graph.specs.declared.Compiled.the-variants as compiled
 use Rattle.scratch.specs.Scratch.{lengthsFor}
-use Rattle.calls.specs.Call.{Lent, lentOf}
+use Rattle.lent_graph.specs.Call.{Lent, lentOf}
 use Rattle.marking.specs.declared.Marking.{Marking}
 use Rattle.marking.specs.declared.Marking.the-variants as marking
 use Rattle.marker.specs.Answer.{Marks}

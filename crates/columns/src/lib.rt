@@ -5,42 +5,6 @@ ghost use mathlib.Core.List.{[]};
 ghost use lib.ListN.{length, getD};
 ghost use Rattle.columns.specs.Columns.{Wide};
 
-pub fn wide2(s: &[[u32; 2]], d: usize) -> usize
-    requires { ⌜ d < length (now s) ⌝ }
-    ensures { λ _. ⌜ length (getD (now (s .entry)) d []) ≡ 2 ⌝ }
-{
-    let r = &s[d][..];
-    r.len()
-}
-
-pub fn pairs(s: &[[u32; 2]])
-    ensures { λ _. ⌜ Wide 2 (now (s .entry)) ⌝ }
-{
-    let mut d = 0;
-    while d < s.len() {
-        wide2(s, d);
-        d += 1;
-    }
-}
-
-pub fn wide8(s: &[[bool; 8]], d: usize) -> usize
-    requires { ⌜ d < length (now s) ⌝ }
-    ensures { λ _. ⌜ length (getD (now (s .entry)) d []) ≡ 8 ⌝ }
-{
-    let r = &s[d][..];
-    r.len()
-}
-
-pub fn flag_rows(s: &[[bool; 8]])
-    ensures { λ _. ⌜ Wide 8 (now (s .entry)) ⌝ }
-{
-    let mut d = 0;
-    while d < s.len() {
-        wide8(s, d);
-        d += 1;
-    }
-}
-
 pub fn wide6(s: &[[u32; 6]], d: usize) -> usize
     requires { ⌜ d < length (now s) ⌝ }
     ensures { λ _. ⌜ length (getD (now (s .entry)) d []) ≡ 6 ⌝ }

@@ -1,66 +1,14 @@
 -- Masks within masks, bit by bit.
-use Prim.Native.Nat.{ℕ, zero, suc, _/_, _%_, _^_, _<_}
-use native.Mathlib.Nat.{zero-div, div-one}
-use native.Mathlib.Numerals.{one-add}
-use native.Mathlib.Omega.{arith}
+use Prim.Native.Nat.{ℕ}
 use mathlib.Core.Path.{_≡_, refl, sym, ap, _∙_}
 use mathlib.Core.Bool.{Bool, true, false, _&&_, not, xor}
-use lib.Arith.{bin-ind}
 use lib.Dec.{eqb}
-use lib.Bits.{bitAnd, bitXor, and-shr, and-mod}
-use lib.Pow.{shr-shr}
+use lib.Bits.{bitAnd, bitXor}
 use borrow.Author.Tests.{eqb-true, eqb-false, eq-eqb, ne-eqb, not-true}
 use Rattle.bits.specs.Rows.{testBit}
-use Rattle.bits.proofs.Word.{test-xor}
-use Rattle.lists.proofs.Truth.{case-of, clash, and-left, and-right, not-so, xor-assoc, xor-comm}
+use Rattle.bits.proofs.Word.{test-xor, test-and, none-zero, test-ext}
+use Rattle.lists.proofs.Truth.{clash, and-left, and-right, not-so, xor-assoc, xor-comm}
 use Rattle.cover.specs.Masks.{fits}
-
--- ---- the bits of a number
-
-low-and : (p q : ℕ) → p < 2 → q < 2 → eqb (bitAnd p q) 1 ≡ (eqb p 1 && eqb q 1)
-low-and zero zero h k = refl
-low-and zero (suc zero) h k = refl
-low-and (suc zero) zero h k = refl
-low-and (suc zero) (suc zero) h k = refl
-low-and zero (suc (suc q)) h k = absurd (omega arith)
-low-and (suc zero) (suc (suc q)) h k = absurd (omega arith)
-low-and (suc (suc p)) q h k = absurd (omega arith)
-
-test-and : (x y k : ℕ) → testBit (bitAnd x y) k ≡ (testBit x k && testBit y k)
-unfolding testBit
-test-and x y k =
-    let u = x / 2 ^ k in
-    let v = y / 2 ^ k in
-    ap (λ (t : ℕ). eqb (t % 2) 1) (and-shr x y k) ∙ ap (λ (t : ℕ). eqb t 1) (and-mod u v 1) ∙ low-and (u % 2) (v % 2) (omega arith) (omega arith)
-
-test-zero : (w : ℕ) → testBit w zero ≡ eqb (w % 2) 1
-unfolding testBit
-test-zero w = ap (λ (x : ℕ). eqb (x % 2) 1) (div-one w)
-
-test-suc : (w j : ℕ) → testBit w (suc j) ≡ testBit (w / 2) j
-unfolding testBit
-test-suc w j = ap (λ (k : ℕ). eqb (w / 2 ^ k % 2) 1) (sym (one-add j)) ∙ ap (λ (x : ℕ). eqb (x % 2) 1) (sym (shr-shr w 1 j))
-
-test-none : (j : ℕ) → testBit 0 j ≡ false
-unfolding testBit
-test-none j = ap (λ (x : ℕ). eqb (x % 2) 1) (zero-div (2 ^ j))
-
-same-low : (a b : ℕ) → eqb (a % 2) 1 ≡ eqb (b % 2) 1 → a % 2 ≡ b % 2
-same-low a b e = case-of (eqb (a % 2) 1)
-    (λ t. eqb-true (a % 2) 1 t ∙ sym (eqb-true (b % 2) 1 (sym e ∙ t)))
-    (λ f. let p = eqb-false (a % 2) 1 f in let q = eqb-false (b % 2) 1 (sym e ∙ f) in omega arith)
-
-none-zero : (b : ℕ) → ((j : ℕ) → testBit b j ≡ false) → b ≡ zero
-none-zero = bin-ind (λ (b : ℕ). ((j : ℕ) → testBit b j ≡ false) → b ≡ zero) (λ h. refl)
-    (λ n ih h. let e = ih (λ j. sym (test-suc n j) ∙ h (suc j)) in let f = same-low n 0 (sym (test-zero n) ∙ h zero) in omega arith)
-
-test-ext : (a b : ℕ) → ((j : ℕ) → testBit a j ≡ testBit b j) → a ≡ b
-test-ext = bin-ind (λ (a : ℕ). (b : ℕ) → ((j : ℕ) → testBit a j ≡ testBit b j) → a ≡ b)
-    (λ b h. sym (none-zero b (λ j. sym (h j) ∙ test-none j)))
-    (λ n ih b h.
-    let e = ih (b / 2) (λ j. sym (test-suc n j) ∙ h (suc j) ∙ test-suc b j) in
-    let f = same-low n b (sym (test-zero n) ∙ h zero ∙ test-zero b) in
-    omega arith)
 
 -- taken off in either order
 pub xor-turn : (m c d : ℕ) → bitXor (bitXor m c) d ≡ bitXor (bitXor m d) c

@@ -3,12 +3,11 @@ use Prim.Native.Nat.{ℕ, zero, suc, _+_, _-_, _<_}
 use native.Mathlib.Numerals.{add-one}
 use native.Mathlib.Omega.{arith}
 use mathlib.Core.Path.{_≡_, refl, ap, _∙_, subst, sym}
-use mathlib.Core.List.{List, [], _∷_}
-use mathlib.Core.Bool.{Bool, true, false}
+use mathlib.Core.List.{List}
 use lib.ListN.{length, getD}
 use Rattle.lists.specs.Lists.{from, below, filter}
 use Rattle.lists.proofs.Truth.{case-of}
-use Rattle.cover.specs.Kept.{nowhere, lowest, startsWith, lowestFrom, Chains, Follows}
+use Rattle.cover.specs.Kept.{lowest, startsWith, Chains, Follows}
 
 module _ (lists : ℕ → List ℕ) (n : ℕ) (first next : List ℕ) (c : Chains lists n first next) (d : ℕ) where
   follow : (j at : ℕ) → j + at ≡ n → Follows next (lowest (λ k. startsWith d (lists k)) j at) (filter (λ k. startsWith d (lists k)) (from j at))

@@ -12,6 +12,7 @@ use lib.Seq.{getD-set-same, getD-set-other, take-suc-set}
 use borrow.Author.Tests.{eqb-true, eqb-false}
 use Rattle.lists.specs.Lists.{from, filter, member}
 use Rattle.lists.proofs.Truth.{case-of, clash, not-so, same-eqb}
+use Rattle.lists.proofs.Members.{map-snoc}
 use Rattle.dem.specs.Cover.{isEmpty, within}
 use Rattle.cover.proofs.First.{within-all, empty-none}
 use Rattle.cover.specs.Kept.{nowhere, startsWith, lowestFrom, Chains}
@@ -72,10 +73,6 @@ module _ (ds : List ℕ) where
 take-none : (l : List ℕ) → take 0 l ≡ []
 take-none [] = refl
 take-none (x ∷ l) = refl
-
-map-snoc : (f : ℕ → ℕ) (l : List ℕ) (x : ℕ) → map f (l ++ (x ∷ [])) ≡ map f l ++ (f x ∷ [])
-map-snoc f [] x = refl
-map-snoc f (y ∷ l) x = ap {B = List ℕ} (λ r. f y ∷ r) (map-snoc f l x)
 
 -- ---- the merge at mechanism `at`, with `count` candidates so far
 

@@ -2,11 +2,11 @@
 ghost use mathlib.Core.Path.{_≡_};
 ghost use mathlib.Core.Bool.{true, _&&_};
 ghost use Prim.Native.Nat.{ℕ, _-_, _+_, _<_, _≤_};
-ghost use lib.ListN.{length, getD, replicate};
+ghost use lib.ListN.{length, getD};
 ghost use lib.Dec.{eqb};
 ghost use Rattle.dem.specs.Model.{listFits};
 ghost use Rattle.dem.specs.Cover.{firstCover};
-ghost use Rattle.cover.specs.Kept.{detectorsAt, observablesAt, symptomAt, keptIn, nowhere, Detectors, Chains};
+ghost use Rattle.cover.specs.Kept.{detectorsAt, observablesAt, symptomAt, keptIn, Detectors, Chains};
 ghost use Rattle.cover.specs.Masks.{wordOf, maskWithin, Rises, placeOf, fits, coverOf};
 ghost use Rattle.cover.specs.Search.{previous, equalAt, freshAt, Room, Outcome, Answered, Least, Gathered, Merged, Numbered, Worded, Compact, Compacted, Given};
 
@@ -89,17 +89,6 @@ fn find_cover(
 
 // ---- chains by first detector
 
-// No detector begins a chain.
-fn clear(table: &mut [u32])
-    ensures { λ _. ⌜ now (table .exit) ≡ replicate (length (now (table .entry))) nowhere ⌝ }
-{
-    let mut d = 0;
-    while d < table.len() {
-        table[d] = NOWHERE;
-        d += 1;
-    }
-}
-
 // The chains of the kept mechanisms, from the last one down.
 pub fn index_kept(
     starts: &[u32],
@@ -112,7 +101,7 @@ pub fn index_kept(
     requires { ⌜ Detectors (now starts) (now «detector_counts») (now entries) kept (length (now «first_of»)) × (kept ≤ length (now «next_of»)) ⌝ }
     ensures { λ _. ⌜ Chains (detectorsAt (now (starts .entry)) (now («detector_counts» .entry)) (now (entries .entry))) kept (now («first_of» .exit)) (now («next_of» .exit)) ⌝ }
 {
-    clear(first_of);
+    tables::fill_u32(first_of, NOWHERE);
     let mut k = kept;
     while 0 < k {
         k -= 1;

@@ -14,16 +14,16 @@ use Rattle.codes.specs.declared.Checked.the-variants.{Accepted, Refused}
 use Rattle.steps.specs.Shot.{Decoded, impossible, corrected, rowLeft}
 use Rattle.steps.specs.Call.{graphOf, listLeft}
 use Rattle.found.proofs.Found.{found}
-use Rattle.calls.specs.Call.{checkCall}
-use Rattle.calls.specs.Laws.{Accepts}
-use Rattle.calls.proofs.Laws.{call-accepted}
-use Rattle.shot_answer.specs.declared.Shot.{Shot}
-use Rattle.shot_answer.specs.declared.Shot.the-variants as shot
-use Rattle.shot_answer.specs.Shots.{shotOf}
-use Rattle.shots.specs.Blank.{isBlank}
-use Rattle.shots.proofs.Laws.{blank, blank-row}
-use Rattle.shots.proofs.Blank.{none-lit}
-use Rattle.tabled.specs.Long.{slicesLong}
+use Rattle.lent_graph.specs.Call.{checkCall}
+use Rattle.lent_graph.specs.Accepts.{Accepts}
+use Rattle.lent_graph.proofs.Accepts.{call-accepted}
+use Rattle.shot.specs.declared.Shot.{Shot}
+use Rattle.shot.specs.declared.Shot.the-variants as shot
+use Rattle.shot.specs.Shots.{shotOf}
+use Rattle.shot.specs.Blank.{isBlank}
+use Rattle.shot.proofs.Decodes.{blank, blank-row}
+use Rattle.shot.proofs.Blank.{none-lit}
+use Rattle.own_slices.specs.Long.{slicesLong}
 use Rattle.decoder.specs.declared.Answer.{Answer}
 use Rattle.decoder.specs.declared.Answer.the-variants as answer
 use Rattle.decoder.specs.Answer.{Handed, ownLong, checks, graphOfCall, litOfCall, decoded, sheetOf, callRow, answerOf, listAfter, rowAfter, Decodes}

@@ -20,11 +20,11 @@ use Rattle.adjacency.proofs.Parts.{part}
 use Rattle.scratch.specs.Scratch.{scratchLong}
 use Rattle.scratch.specs.Laws.{Long}
 use Rattle.scratch.proofs.Laws.{scratch-long}
-use Rattle.calls.specs.Call.{lentOf}
-use Rattle.calls.specs.Laws.{Accepts}
-use Rattle.shot_answer.specs.declared.Shot.{Shot}
-use Rattle.shot_answer.specs.Shots.{Given, graphIn, shotOf}
-use Rattle.shots.proofs.Longer.{graph-part}
+use Rattle.lent_graph.specs.Call.{lentOf}
+use Rattle.lent_graph.specs.Accepts.{Accepts}
+use Rattle.shot.specs.declared.Shot.{Shot}
+use Rattle.shot.specs.Shots.{Given, graphIn, shotOf}
+use Rattle.shot.proofs.Longer.{graph-part}
 use Rattle.decoder.specs.Answer.{Handed, ownLong}
 
 -- the row, the list and the scratch are long enough

@@ -15,7 +15,7 @@ use Rattle.steps.specs.Call.{litOf, listLeft}
 use Rattle.steps.specs.Found.{bySteps, Found}
 use Rattle.scratch.specs.declared.Lengths.{Lengths}
 use Rattle.scratch.specs.Scratch.{scratchLong}
-use Rattle.calls.specs.Call.{Lent, graphIn, checkCall}
+use Rattle.lent_graph.specs.Call.{Lent, graphIn, checkCall}
 use Rattle.decoder.specs.declared.Answer.{Answer}
 use Rattle.decoder.specs.declared.Answer.the-variants as answer
 

@@ -1,6 +1,6 @@
 -- The answer of an accepted call, by what its shot comes to.
-use Rattle.shot_answer.specs.declared.Shot.{Shot}
-use Rattle.shot_answer.specs.declared.Shot.the-variants as shot
+use Rattle.shot.specs.declared.Shot.{Shot}
+use Rattle.shot.specs.declared.Shot.the-variants as shot
 use Rattle.decoder.specs.declared.Answer.{Answer}
 use Rattle.decoder.specs.declared.Answer.the-variants as answer
 

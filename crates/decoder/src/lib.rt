@@ -2,17 +2,17 @@
 use codes::Checked;
 use codes::Refusal;
 use scratch::Lengths;
-use shot_answer::Shot;
+use shot::Shot;
 ghost use Prim.Native.Nat.{_<_, _≤_};
 ghost use mathlib.Core.Path.{_≡_};
 ghost use lib.ListN.{length};
 ghost use Rattle.steps.specs.Shot.{decode, rowLeft};
 ghost use Rattle.steps.specs.Call.{graphOf, litOf, listLeft};
 ghost use Rattle.scratch.specs.Scratch.{lengthsOf};
-ghost use Rattle.calls.specs.Call.{lentOf};
-ghost use Rattle.resets.specs.Rows.{Spaces};
-ghost use Rattle.shot_answer.specs.Shots.{Given, shotOf};
-ghost use Rattle.shots.specs.Longer.{Longer};
+ghost use Rattle.lent_graph.specs.Call.{lentOf};
+ghost use Rattle.rest.specs.Rows.{Spaces};
+ghost use Rattle.shot.specs.Shots.{Given, shotOf};
+ghost use Rattle.shot.specs.Longer.{Longer};
 ghost use Rattle.decoder.specs.Answer.{handed, Decodes};
 ghost use Rattle.decoder.specs.Parts.{answerTo};
 
@@ -35,7 +35,7 @@ fn answer_of(shot: Shot) -> Answer
 }
 
 // The tables put to rest, whatever they held, and the shot decoded. Of slices that may be longer than the counts need the first entries are lent. Long for its parameters, one a line.
-fn decode_parts(
+fn reset_and_decode(
     detectors: usize,
     observables: usize,
     edges: usize,
@@ -63,11 +63,11 @@ fn decode_parts(
     ensures lists { λ _. ⌜ now (list .exit) ≡ listLeft (now (list .entry)) (decode (graphOf detectors observables edges (now («edge_u» .entry)) (now («edge_v» .entry)) (now («edge_weight» .entry)) (now («edge_obs» .entry))) (litOf detectors (now (shot .entry)))) ⌝ }
     ensures rows { λ _. ⌜ now (row .exit) ≡ rowLeft (graphOf detectors observables edges (now («edge_u» .entry)) (now («edge_v» .entry)) (now («edge_weight» .entry)) (now («edge_obs» .entry))) (now (row .entry)) (decode (graphOf detectors observables edges (now («edge_u» .entry)) (now («edge_v» .entry)) (now («edge_weight» .entry)) (now («edge_obs» .entry))) (litOf detectors (now (shot .entry)))) ⌝ }
 {
-    resets::reset(detectors, edges, tree, flags, growth, sat);
+    rest::reset(detectors, edges, tree, flags, growth, sat);
     columns::stack_rows(stacks);
     columns::link_rows(links);
     let offsets = detectors + 1;
-    shots::decode_clean(
+    shot::decode_clean(
         detectors,
         observables,
         &edge_u[0..edges],
@@ -122,7 +122,7 @@ pub fn decode_shot(
         growth: growth.len(),
         sat: sat.len(),
     };
-    let long = tabled::own_long(
+    let long = own_slices::own_long(
         detectors,
         observables,
         edges,
@@ -131,7 +131,7 @@ pub fn decode_shot(
         list.len(),
         have,
     );
-    let checked = calls::check_call(
+    let checked = lent_graph::check_call(
         detectors,
         observables,
         edges,
@@ -147,7 +147,7 @@ pub fn decode_shot(
     if let Checked::Refused(r) = checked {
         return Answer::Refused(r);
     }
-    let blank = shots::is_blank(shot);
+    let blank = shot::is_blank(shot);
     if blank {
         return Answer::Decoded {
             rounds: 0,
@@ -155,7 +155,7 @@ pub fn decode_shot(
         };
     }
     adjacency::tabulate(detectors, edges, edge_u, edge_v, adj_offsets, adj);
-    let found = decode_parts(
+    let found = reset_and_decode(
         detectors,
         observables,
         edges,

@@ -1,4 +1,5 @@
-pub mod Grows
-pub mod Turn
-pub mod Start
-pub mod Copies
+pub mod Appending
+pub mod Growing
+pub mod Keeps
+pub mod Laws
+pub mod Starting

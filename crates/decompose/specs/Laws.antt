@@ -1,17 +1,19 @@
--- What holds of a decomposed model; proofs/Grows.antt proves it.
-use Prim.Native.Nat.{ℕ}
+-- What holds of a decomposed model; proofs/Laws.antt proves it.
+use Prim.Native.Nat.{ℕ, _<_, _≤_}
 use mathlib.Core.Path.{_≡_}
-use mathlib.Core.List.{List, _++_}
-use lib.ListN.{length, replicate}
-use Rattle.dem.specs.Model.{Symptom, ErrorMechanism}
-use Rattle.dem.specs.Tables.{tablesOf, symptomEntries}
-use Rattle.decompose.specs.Begun.{symptomsOf}
+use mathlib.Core.List.{List}
+use lib.ListN.{length, getD}
+use Rattle.dem.specs.Model.{ErrorMechanism}
+use Rattle.dem.specs.Decompose.{Places, into, entriesOf, keptOf, decompose}
 
--- b is a with new mechanisms at its end: lists and components stay, and the new ones have no components
-pub record Grows (a b : List ErrorMechanism) : Type 0 where
-  pub new : List Symptom
-  pub symptoms : symptomsOf b ≡ symptomsOf a ++ new
-  pub component-counts : tablesOf b .component-counts ≡ tablesOf a .component-counts ++ replicate (length new) 0
-  pub component-detectors : tablesOf b .component-detectors ≡ tablesOf a .component-detectors
-  pub component-observables : tablesOf b .component-observables ≡ tablesOf a .component-observables
-  pub entries : tablesOf b .entries ≡ tablesOf a .entries ++ symptomEntries new
+-- the model ms finds its places
+pub record Placed (room : Places) (ms : List ErrorMechanism) : Type 0 where
+  pub mechanisms : length ms ≤ room .mechanisms
+  pub entries : entriesOf ms ≤ room .entries
+
+pub record Laws : Type 0 where
+  -- every mechanism of a decomposed model has at most two detectors
+  pub graphlike : (room : Places) (ms b : List ErrorMechanism) → decompose room ms ≡ into b
+      → (k : ℕ) (z : ErrorMechanism) → k < length b → length (getD b k z .symptom .detectors) ≤ 2
+  -- it finds its places where the kept mechanisms do
+  pub placed : (room : Places) (ms b : List ErrorMechanism) → decompose room ms ≡ into b → Placed room (keptOf ms) → Placed room b

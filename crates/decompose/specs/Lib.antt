@@ -1,2 +1,5 @@
-pub mod Begun
+pub mod Appended
+pub mod Call
 pub mod Laws
+pub mod Made
+pub mod Started

@@ -1,27 +1,183 @@
-// Document 01, "Decomposed model": the model in its tables, decomposed into output tables.
-ghost use mathlib.Core.Path.{_≡_};
-ghost use mathlib.Core.List.{List};
-ghost use Prim.Native.Nat.{ℕ, _+_, _<_, _≤_};
-ghost use lib.ListN.{length};
-ghost use Rattle.dem.specs.Tables.{modelOf, tablesZero};
-ghost use Rattle.dem.specs.Positions.{tables};
-ghost use Rattle.dem.specs.Decompose.{decompose};
-ghost use Rattle.suggested.specs.Held.{placesOf};
-ghost use Rattle.splits.specs.Ready.{After};
-ghost use Rattle.decompose.specs.Begun.{columnsOf, Begun, Copyable, CopiedKept};
-use dem::Place;
+// Document 01, "Decomposed model": a model in its tables is checked, decomposed into output tables, or refused.
+use codes::Refusal;
+use split_model::Counts;
 use splits::Step;
 use suggested::Size;
+ghost use mathlib.Core.Path.{_≡_};
+ghost use mathlib.Core.List.{List, _++_};
+ghost use Prim.Native.Nat.{ℕ, _-_, _≤_};
+ghost use lib.ListN.{length, take};
+ghost use Rattle.dem.specs.Tables.{Tables, modelOf, symptomEntries, tablesWritten, written};
+ghost use Rattle.dem.specs.Positions.{tables};
+ghost use Rattle.dem.specs.Decompose.{keptOf, decompose};
+ghost use Rattle.suggested.specs.Held.{placesOf};
+ghost use Rattle.split_model.specs.Begun.{Begun};
+ghost use Rattle.decompose.specs.Appended.{listsFrom, Appendable};
+ghost use Rattle.decompose.specs.Made.{Finished, Roomy, Made};
+ghost use Rattle.decompose.specs.Started.{Startable, Started, Decomposable};
 
-// The mechanisms, components and entries of a model.
-pub struct Counts {
-    pub mechanisms: usize,
-    pub components: usize,
-    pub entries: usize,
+// What the call comes to: the mechanisms, components and entries of the new model, or the refusal.
+pub enum Decomposed {
+    Into(Counts),
+    Refused(Refusal),
 }
 
-// Those with 0 to 2 detectors are kept in order, with their components. Long for its parameters, one a line.
-pub fn copy_kept(
+// The lengths of the scratch slices.
+pub struct Scratch {
+    pub starts: usize,
+    pub before: usize,
+    pub last_of: usize,
+    pub first_of: usize,
+    pub next_of: usize,
+    pub numbers: usize,
+    pub masks: usize,
+    pub words0: usize,
+    pub words1: usize,
+    pub earlier: usize,
+}
+
+// ---- the appended mechanisms
+
+// The lists of mechanisms `first` to `end`, after the first `at` entries.
+fn append_lists(
+    first: usize,
+    end: usize,
+    at: usize,
+    starts: &[u32],
+    detector_counts: &[u8],
+    observable_counts: &[u8],
+    entries: &[u32],
+    out: &mut [u32],
+)
+    requires { ⌜ Appendable (now starts) (now «detector_counts») (now «observable_counts») (now entries) first end at (now out) ⌝ }
+    ensures { λ _. ⌜ now (out .exit) ≡ written (take at (now (out .entry)) ++ symptomEntries (listsFrom (now (starts .entry)) (now («detector_counts» .entry)) (now («observable_counts» .entry)) (now (entries .entry)) first end)) (now (out .entry)) ⌝ }
+{
+    let mut to = at;
+    let mut k = first;
+    while k < end {
+        let start = starts[k] as usize;
+        let size = detector_counts[k] as usize + observable_counts[k] as usize;
+        let stop = start + size;
+        tables::copy_words(&entries[start..stop], out, to);
+        to += size;
+        k += 1;
+    }
+}
+
+// The appended mechanisms in the columns and entries that splitting leaves alone.
+fn finish(
+    kept: Counts,
+    size: Size,
+    starts: &[u32],
+    detector_counts: &[u8],
+    observable_counts: &[u8],
+    entries: &[u32],
+    component_counts: &mut [u8],
+    out: &mut [u32],
+) -> Decomposed
+    requires { ⌜ Appendable (now starts) (now «detector_counts») (now «observable_counts») (now entries) (kept .mechanisms) (size .mechanisms) (kept .entries) (now out) × (size .mechanisms ≤ length (now «component_counts»)) ⌝ }
+    ensures { λ r. ⌜ Finished kept size (now (starts .entry)) (now («detector_counts» .entry)) (now («observable_counts» .entry)) (now (entries .entry)) (now («component_counts» .entry)) (now (out .entry)) r (now («component_counts» .exit)) (now (out .exit)) ⌝ }
+{
+    let first = kept.mechanisms;
+    let end = size.mechanisms;
+    tables::fill_u8(&mut component_counts[first..end], 0);
+    append_lists(
+        first,
+        end,
+        kept.entries,
+        starts,
+        detector_counts,
+        observable_counts,
+        entries,
+        out,
+    );
+    Decomposed::Into(Counts {
+        mechanisms: end,
+        components: kept.components,
+        entries: size.entries,
+    })
+}
+
+// Each larger mechanism is split over the kept ones, and what was appended is written. Long for its parameters, one a line.
+fn split_kept(
+    mechanisms: usize,
+    kept: Counts,
+    room: Size,
+    probability: &[f64],
+    detector_counts: &[u8],
+    observable_counts: &[u8],
+    component_counts: &[u8],
+    component_detectors: &[u8],
+    component_observables: &[u8],
+    entries: &[u32],
+    first_of: &[u32],
+    next_of: &[u32],
+    starts: &mut [u32],
+    out_probability: &mut [f64],
+    out_detector_counts: &mut [u8],
+    out_observable_counts: &mut [u8],
+    out_component_counts: &mut [u8],
+    out_entries: &mut [u32],
+    last_of: &mut [u32],
+    before: &mut [u32],
+    numbers: &mut [u32],
+    masks: &mut [u16],
+    words0: &mut [u64],
+    words1: &mut [u64],
+    earlier: &mut [u32],
+) -> Decomposed
+    requires { ⌜ Begun mechanisms (tables (now probability) (now «detector_counts») (now «observable_counts») (now «component_counts») (now «component_detectors») (now «component_observables») (now entries)) (kept .mechanisms) (record { mechanisms = kept .mechanisms; entries = kept .entries }) room (now «first_of») (now «next_of») (now starts) (now «out_detector_counts») (now «out_observable_counts») (now «out_probability») (now «last_of») (now before) (now numbers) (now masks) (now words0) (now words1) (now earlier) × Roomy (keptOf (modelOf mechanisms (tables (now probability) (now «detector_counts») (now «observable_counts») (now «component_counts») (now «component_detectors») (now «component_observables») (now entries)))) kept room (now «out_component_counts») (now «out_entries») ⌝ }
+    ensures { λ r. ⌜ ((was : Tables) (cds cos : List ℕ) → tables (now («out_probability» .entry)) (now («out_detector_counts» .entry)) (now («out_observable_counts» .entry)) (now («out_component_counts» .entry)) cds cos (now («out_entries» .entry)) ≡ tablesWritten (keptOf (modelOf mechanisms (tables (now (probability .entry)) (now («detector_counts» .entry)) (now («observable_counts» .entry)) (now («component_counts» .entry)) (now («component_detectors» .entry)) (now («component_observables» .entry)) (now (entries .entry))))) was → Made (decompose (placesOf room) (modelOf mechanisms (tables (now (probability .entry)) (now («detector_counts» .entry)) (now («observable_counts» .entry)) (now («component_counts» .entry)) (now («component_detectors» .entry)) (now («component_observables» .entry)) (now (entries .entry))))) was r (tables (now («out_probability» .exit)) (now («out_detector_counts» .exit)) (now («out_observable_counts» .exit)) (now («out_component_counts» .exit)) cds cos (now («out_entries» .exit)))) ⌝ }
+{
+    let size = Size {
+        mechanisms: kept.mechanisms,
+        entries: kept.entries,
+    };
+    let step = split_model::split_all(
+        mechanisms,
+        kept.mechanisms,
+        size,
+        room,
+        probability,
+        detector_counts,
+        observable_counts,
+        component_counts,
+        component_detectors,
+        component_observables,
+        entries,
+        first_of,
+        next_of,
+        starts,
+        out_detector_counts,
+        out_observable_counts,
+        out_probability,
+        last_of,
+        before,
+        numbers,
+        masks,
+        words0,
+        words1,
+        earlier,
+    );
+    match step {
+        Step::Refused(r) => Decomposed::Refused(r),
+        Step::Grown(grown) => finish(
+            kept,
+            grown,
+            starts,
+            out_detector_counts,
+            out_observable_counts,
+            entries,
+            out_component_counts,
+            out_entries,
+        ),
+    }
+}
+
+// ---- a checked model
+
+// The kept mechanisms are copied, and linked by their first detectors. Long for its parameters, one a line.
+fn start(
     mechanisms: usize,
     probability: &[f64],
     detector_counts: &[u8],
@@ -38,49 +194,15 @@ pub fn copy_kept(
     out_component_observables: &mut [u8],
     out_entries: &mut [u32],
     starts: &mut [u32],
+    before: &mut [u32],
+    last_of: &mut [u32],
+    first_of: &mut [u32],
+    next_of: &mut [u32],
 ) -> Counts
-    requires { ⌜ Copyable mechanisms (tables (now probability) (now «detector_counts») (now «observable_counts») (now «component_counts») (now «component_detectors») (now «component_observables») (now entries)) (tables (now «out_probability») (now «out_detector_counts») (now «out_observable_counts») (now «out_component_counts») (now «out_component_detectors») (now «out_component_observables») (now «out_entries»)) (now starts) ⌝ }
-    ensures { λ r. ⌜ CopiedKept mechanisms (tables (now (probability .entry)) (now («detector_counts» .entry)) (now («observable_counts» .entry)) (now («component_counts» .entry)) (now («component_detectors» .entry)) (now («component_observables» .entry)) (now (entries .entry))) (tables (now («out_probability» .entry)) (now («out_detector_counts» .entry)) (now («out_observable_counts» .entry)) (now («out_component_counts» .entry)) (now («out_component_detectors» .entry)) (now («out_component_observables» .entry)) (now («out_entries» .entry))) (now (starts .entry)) r (tables (now («out_probability» .exit)) (now («out_detector_counts» .exit)) (now («out_observable_counts» .exit)) (now («out_component_counts» .exit)) (now («out_component_detectors» .exit)) (now («out_component_observables» .exit)) (now («out_entries» .exit))) (now (starts .exit)) ⌝ }
+    requires { ⌜ Startable mechanisms (tables (now probability) (now «detector_counts») (now «observable_counts») (now «component_counts») (now «component_detectors») (now «component_observables») (now entries)) (tables (now «out_probability») (now «out_detector_counts») (now «out_observable_counts») (now «out_component_counts») (now «out_component_detectors») (now «out_component_observables») (now «out_entries»)) (now starts) (now before) (now «last_of») (now «first_of») (now «next_of») ⌝ }
+    ensures { λ r. ⌜ Started mechanisms (tables (now (probability .entry)) (now («detector_counts» .entry)) (now («observable_counts» .entry)) (now («component_counts» .entry)) (now («component_detectors» .entry)) (now («component_observables» .entry)) (now (entries .entry))) (tables (now («out_probability» .entry)) (now («out_detector_counts» .entry)) (now («out_observable_counts» .entry)) (now («out_component_counts» .entry)) (now («out_component_detectors» .entry)) (now («out_component_observables» .entry)) (now («out_entries» .entry))) (now (starts .entry)) r (tables (now («out_probability» .exit)) (now («out_detector_counts» .exit)) (now («out_observable_counts» .exit)) (now («out_component_counts» .exit)) (now («out_component_detectors» .exit)) (now («out_component_observables» .exit)) (now («out_entries» .exit))) (now (starts .exit)) (now (before .exit)) (now («last_of» .exit)) (now («first_of» .exit)) (now («next_of» .exit)) ⌝ }
 {
-    let kept = copies::copy_probabilities(
-        mechanisms,
-        detector_counts,
-        probability,
-        out_probability,
-    );
-    copies::copy_counts(
-        mechanisms,
-        detector_counts,
-        detector_counts,
-        out_detector_counts,
-    );
-    copies::copy_counts(
-        mechanisms,
-        detector_counts,
-        observable_counts,
-        out_observable_counts,
-    );
-    copies::copy_counts(
-        mechanisms,
-        detector_counts,
-        component_counts,
-        out_component_counts,
-    );
-    let components = copies::copy_components(
-        mechanisms,
-        detector_counts,
-        component_counts,
-        component_detectors,
-        out_component_detectors,
-    );
-    copies::copy_components(
-        mechanisms,
-        detector_counts,
-        component_counts,
-        component_observables,
-        out_component_observables,
-    );
-    let listed = copies::copy_entries(
+    let kept = split_model::copy_kept(
         mechanisms,
         probability,
         detector_counts,
@@ -89,42 +211,37 @@ pub fn copy_kept(
         component_detectors,
         component_observables,
         entries,
+        out_probability,
+        out_detector_counts,
+        out_observable_counts,
+        out_component_counts,
+        out_component_detectors,
+        out_component_observables,
         out_entries,
         starts,
     );
-    Counts {
-        mechanisms: kept,
-        components: components,
-        entries: listed,
-    }
+    last_equal::index_last(
+        starts,
+        out_detector_counts,
+        entries,
+        kept.mechanisms,
+        last_of,
+        before,
+    );
+    cover::index_kept(
+        starts,
+        out_detector_counts,
+        entries,
+        kept.mechanisms,
+        first_of,
+        next_of,
+    );
+    kept
 }
 
-// A refusal leaves all output tables zero.
-pub fn zero_tables(
-    probability: &mut [f64],
-    detector_counts: &mut [u8],
-    observable_counts: &mut [u8],
-    component_counts: &mut [u8],
-    component_detectors: &mut [u8],
-    component_observables: &mut [u8],
-    entries: &mut [u32],
-)
-    ensures { λ _. ⌜ tables (now (probability .exit)) (now («detector_counts» .exit)) (now («observable_counts» .exit)) (now («component_counts» .exit)) (now («component_detectors» .exit)) (now («component_observables» .exit)) (now (entries .exit)) ≡ tablesZero (tables (now (probability .entry)) (now («detector_counts» .entry)) (now («observable_counts» .entry)) (now («component_counts» .entry)) (now («component_detectors» .entry)) (now («component_observables» .entry)) (now (entries .entry))) ⌝ }
-{
-    copies::zero_floats(probability);
-    copies::zero_bytes(detector_counts);
-    copies::zero_bytes(observable_counts);
-    copies::zero_bytes(component_counts);
-    copies::zero_bytes(component_detectors);
-    copies::zero_bytes(component_observables);
-    copies::zero_words(entries);
-}
-
-// Each larger mechanism, in order. Long for its parameters, one a line.
-pub fn split_all(
+// The model is decomposed into the output tables; a refusal leaves them as they are by then. Long for its parameters, one a line.
+pub fn decompose_checked(
     mechanisms: usize,
-    kept: usize,
-    size: Size,
     room: Size,
     probability: &[f64],
     detector_counts: &[u8],
@@ -133,71 +250,74 @@ pub fn split_all(
     component_detectors: &[u8],
     component_observables: &[u8],
     entries: &[u32],
-    first_of: &[u32],
-    next_of: &[u32],
-    starts: &mut [u32],
+    out_probability: &mut [f64],
     out_detector_counts: &mut [u8],
     out_observable_counts: &mut [u8],
-    out_probability: &mut [f64],
-    last_of: &mut [u32],
+    out_component_counts: &mut [u8],
+    out_component_detectors: &mut [u8],
+    out_component_observables: &mut [u8],
+    out_entries: &mut [u32],
+    starts: &mut [u32],
     before: &mut [u32],
+    last_of: &mut [u32],
+    first_of: &mut [u32],
+    next_of: &mut [u32],
     numbers: &mut [u32],
     masks: &mut [u16],
     words0: &mut [u64],
     words1: &mut [u64],
     earlier: &mut [u32],
-) -> Step
-    requires { ⌜ Begun mechanisms (tables (now probability) (now «detector_counts») (now «observable_counts») (now «component_counts») (now «component_detectors») (now «component_observables») (now entries)) kept size room (now «first_of») (now «next_of») (now starts) (now «out_detector_counts») (now «out_observable_counts») (now «out_probability») (now «last_of») (now before) (now numbers) (now masks) (now words0) (now words1) (now earlier) ⌝ }
-    ensures { λ r. ⌜ After (decompose (placesOf room) (modelOf mechanisms (tables (now (probability .entry)) (now («detector_counts» .entry)) (now («observable_counts» .entry)) (now («component_counts» .entry)) (now («component_detectors» .entry)) (now («component_observables» .entry)) (now (entries .entry))))) (columnsOf (now («out_probability» .entry)) (now («out_detector_counts» .entry)) (now («out_observable_counts» .entry))) r (now (entries .entry)) (now (starts .exit)) (now («out_detector_counts» .exit)) (now («out_observable_counts» .exit)) (now («out_probability» .exit)) (now («last_of» .exit)) (now (before .exit)) ⌝ }
+) -> Decomposed
+    requires { ⌜ Decomposable mechanisms (tables (now probability) (now «detector_counts») (now «observable_counts») (now «component_counts») (now «component_detectors») (now «component_observables») (now entries)) (tables (now «out_probability») (now «out_detector_counts») (now «out_observable_counts») (now «out_component_counts») (now «out_component_detectors») (now «out_component_observables») (now «out_entries»)) room (now starts) (now before) (now «last_of») (now «first_of») (now «next_of») (now numbers) (now masks) (now words0) (now words1) (now earlier) ⌝ }
+    ensures { λ r. ⌜ Made (decompose (placesOf room) (modelOf mechanisms (tables (now (probability .entry)) (now («detector_counts» .entry)) (now («observable_counts» .entry)) (now («component_counts» .entry)) (now («component_detectors» .entry)) (now («component_observables» .entry)) (now (entries .entry))))) (tables (now («out_probability» .entry)) (now («out_detector_counts» .entry)) (now («out_observable_counts» .entry)) (now («out_component_counts» .entry)) (now («out_component_detectors» .entry)) (now («out_component_observables» .entry)) (now («out_entries» .entry))) r (tables (now («out_probability» .exit)) (now («out_detector_counts» .exit)) (now («out_observable_counts» .exit)) (now («out_component_counts» .exit)) (now («out_component_detectors» .exit)) (now («out_component_observables» .exit)) (now («out_entries» .exit))) ⌝ }
 {
-    let mut place = Place {
-        component: 0,
-        entry: 0,
-    };
-    let mut sized = size;
-    let mut next = 0;
-    while next < mechanisms {
-        let i = next;
-        let at = place;
-        let h = dem::head(
-            probability,
-            detector_counts,
-            observable_counts,
-            component_counts,
-            i,
-        );
-        place = dem::past(h, at, component_detectors, component_observables);
-        next += 1;
-        if 2 < h.detectors {
-            let step = splits::split_one(
-                i,
-                h,
-                at,
-                kept,
-                sized,
-                room,
-                component_detectors,
-                component_observables,
-                entries,
-                first_of,
-                next_of,
-                starts,
-                out_detector_counts,
-                out_observable_counts,
-                out_probability,
-                last_of,
-                before,
-                numbers,
-                masks,
-                words0,
-                words1,
-                earlier,
-            );
-            let Step::Grown(grown) = step else {
-                return step;
-            };
-            sized = grown;
-        }
-    }
-    Step::Grown(sized)
+    let kept = start(
+        mechanisms,
+        probability,
+        detector_counts,
+        observable_counts,
+        component_counts,
+        component_detectors,
+        component_observables,
+        entries,
+        out_probability,
+        out_detector_counts,
+        out_observable_counts,
+        out_component_counts,
+        out_component_detectors,
+        out_component_observables,
+        out_entries,
+        starts,
+        before,
+        last_of,
+        first_of,
+        next_of,
+    );
+    split_kept(
+        mechanisms,
+        kept,
+        room,
+        probability,
+        detector_counts,
+        observable_counts,
+        component_counts,
+        component_detectors,
+        component_observables,
+        entries,
+        first_of,
+        next_of,
+        starts,
+        out_probability,
+        out_detector_counts,
+        out_observable_counts,
+        out_component_counts,
+        out_entries,
+        last_of,
+        before,
+        numbers,
+        masks,
+        words0,
+        words1,
+        earlier,
+    )
 }

@@ -1,44 +1,21 @@
 -- What an accepted check tells.
 use Prim.Native.Nat.{ℕ, zero, suc, _<_, _≤_}
 use native.Mathlib.Nat.{not-suc-le-zero, le-of-suc-le-suc}
-use native.Mathlib.Omega.{arith}
-use mathlib.Core.Path.{_≡_, refl}
+use mathlib.Core.Path.{_≡_}
 use mathlib.Core.List.{List, [], _∷_}
-use mathlib.Core.Bool.{Bool, true, false, not, _&&_}
+use mathlib.Core.Bool.{true, not, _&&_}
 use lib.Dec.{leb, ltb}
 use lib.ListN.{length, getD}
-use borrow.Author.Tests.{leb-true, ltb-true, ltb-false, not-false}
+use borrow.Author.Tests.{leb-true, ltb-true}
 use Rattle.lists.proofs.Truth.{and-left, and-right}
-use Rattle.codes.specs.declared.Refusal.{Refusal}
 use Rattle.codes.specs.declared.Refusal.the-variants.{Probability, Index}
-use Rattle.codes.specs.declared.Checked.{Checked}
-use Rattle.codes.specs.declared.Checked.the-variants.{Accepted, Refused}
-use Rattle.codes.specs.Order.{refuseIf, andThen}
-use Rattle.codes.specs.Limits.{maxDetectors, maxObservables, maxMechanisms, maxEntries, checkCounts}
+use Rattle.codes.specs.declared.Checked.the-variants.{Accepted}
+use Rattle.codes.specs.Order.{refuseIf}
+use Rattle.codes.proofs.Checks.{then-accepted, unless-accepted}
+use Rattle.codes.specs.Limits.{maxEntries}
 use Rattle.dem.specs.Model.{Symptom, ErrorMechanism, ascending, listFits, symptomFits, symptomsFit, listsFit, probabilityFits, checkMechanism, checkModel}
 use Rattle.dem.specs.Cover.{none-such}
 use Rattle.dem.specs.Laws.{Fits, SymptomFits, MechanismFits}
-
-never : {C : Type 0} (r : Refusal) → Refused r ≡ Accepted → C
-never r h = let z : _≡_ {A = ℕ} 0 1 = cc in absurd (omega arith)
-
-pub then-accepted : (a b : Checked) → andThen a b ≡ Accepted → (a ≡ Accepted) × (b ≡ Accepted)
-then-accepted Accepted b h = (refl, h)
-then-accepted (Refused r) b h = never r h
-
-if-accepted : (b : Bool) (r : Refusal) → refuseIf b r ≡ Accepted → b ≡ false
-if-accepted true r h = never r h
-if-accepted false r h = refl
-
-pub unless-accepted : (b : Bool) (r : Refusal) → refuseIf (not b) r ≡ Accepted → b ≡ true
-unless-accepted b r h = not-false b (if-accepted (not b) r h)
-
-pub counts-within : (D O M : ℕ) → checkCounts D O M ≡ Accepted → (D ≤ maxDetectors) × (O ≤ maxObservables) × (M ≤ maxMechanisms)
-unfolding checkCounts
-counts-within D O M h =
-    let (a, p) = then-accepted _ _ h in
-    let (b, c) = then-accepted _ _ p in
-    (ltb-false _ _ (if-accepted _ _ a), ltb-false _ _ (if-accepted _ _ b), ltb-false _ _ (if-accepted _ _ c))
 
 -- ---- lists
 

@@ -17,7 +17,8 @@ use Rattle.dem.specs.Check.{checkAll}
 use Rattle.dem.specs.Laws.{ModelFits, Reached, Laws}
 use Rattle.dem.proofs.Positions.{from-zero, from-suc, model-split, first-from, place-next, components-le, entries-le, reached-of, hold-of, inside-of, components-sum, place-alone}
 use Rattle.dem.proofs.Reading.{read-back, reached-written, ends-written, read-alone, reached-alone}
-use Rattle.dem.proofs.Accepted.{then-accepted, unless-accepted, counts-within, model-fits}
+use Rattle.dem.proofs.Accepted.{model-fits}
+use Rattle.codes.proofs.Checks.{then-accepted, unless-accepted, counts-within}
 
 pub count : (n : ℕ) (t : Tables) → length (modelOf n t) ≡ n
 unfolding modelOf

@@ -15,8 +15,8 @@ use Rattle.steps.specs.Rows.{rowOf}
 use Rattle.steps.specs.Shot.{Decoded, impossible, corrected, decode, rowLeft}
 use Rattle.steps.specs.Call.{graphOf, litOf, listLeft}
 use Rattle.steps.specs.Found.{Found, bySteps, Blank, Stuck, Hands, Whole}
-use Rattle.calls.specs.Call.{checkCall}
-use Rattle.calls.proofs.Laws.{call-accepted}
+use Rattle.lent_graph.specs.Call.{checkCall}
+use Rattle.lent_graph.proofs.Accepts.{call-accepted}
 use Rattle.marking.specs.declared.Marking.{Marking}
 use Rattle.marking.specs.declared.Marking.the-variants as marking
 use Rattle.marker.specs.Answer.{markerLong, checkMark, Marks}

@@ -16,7 +16,7 @@ use Rattle.steps.specs.Rows.{rowOf}
 use Rattle.steps.specs.Marker.{Marked, pass, differs, unfit, fit, mark}
 use Rattle.steps.specs.Call.{graphOf, litOf, rowMarked}
 use Rattle.steps.specs.Found.{Found, bySteps}
-use Rattle.calls.specs.Call.{Lent, graphIn}
+use Rattle.lent_graph.specs.Call.{Lent, graphIn}
 use Rattle.marking.specs.declared.Marking.{Marking}
 use Rattle.marking.specs.declared.Marking.the-variants as marking
 use Rattle.marking.specs.Answer.{markingOf}

@@ -17,8 +17,8 @@ use Rattle.steps.specs.Call.{listLeft}
 use Rattle.steps.specs.Found.{Blank}
 use Rattle.marking.specs.declared.Marking.{Marking}
 use Rattle.marking.specs.declared.Marking.the-variants as marking
-use Rattle.calls.specs.Call.{Lent}
-use Rattle.calls.proofs.Laws.{call-accepted}
+use Rattle.lent_graph.specs.Call.{Lent}
+use Rattle.lent_graph.proofs.Accepts.{call-accepted}
 use Rattle.marker.specs.Answer.{markerLong, Marks}
 use Rattle.decoder.specs.declared.Answer.{Answer}
 use Rattle.decoder.specs.declared.Answer.the-variants as answer

@@ -14,7 +14,7 @@ use Rattle.steps.specs.Rows.{rowOf}
 use Rattle.steps.specs.Marker.{fit}
 use Rattle.steps.specs.Found.{Known, Distinct, Explains, Blank, Xored, Rounds, NoneActive, Halted, Named}
 use Rattle.steps.specs.Call.{litOf}
-use Rattle.calls.specs.Call.{Lent, graphIn}
+use Rattle.lent_graph.specs.Call.{Lent, graphIn}
 use Rattle.marking.specs.declared.Marking.{Marking}
 use Rattle.marking.specs.declared.Marking.the-variants as marking
 use Rattle.marker.specs.Answer.{markerLong, checkMark, Marks}

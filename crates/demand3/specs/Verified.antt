@@ -7,7 +7,7 @@ use Rattle.bits.specs.Rows.{words}
 use Rattle.codes.specs.declared.Refusal.{Refusal}
 use Rattle.codes.specs.declared.Refusal.the-variants as refusal
 use Rattle.steps.specs.Found.{Blank}
-use Rattle.calls.specs.Call.{Lent}
+use Rattle.lent_graph.specs.Call.{Lent}
 use Rattle.marking.specs.declared.Marking.{Marking}
 use Rattle.marking.specs.declared.Marking.the-variants as marking
 use Rattle.marker.specs.Answer.{Marks}

@@ -4,7 +4,7 @@ use decoder::Answer;
 use marking::Marking;
 ghost use lib.ListN.{length};
 ghost use Rattle.scratch.specs.Scratch.{lengthsOf};
-ghost use Rattle.calls.specs.Call.{lentOf};
+ghost use Rattle.lent_graph.specs.Call.{lentOf};
 ghost use Rattle.decoder.specs.Answer.{handed};
 ghost use Rattle.demand3.specs.Verified.{Fits, Follows, Verified};
 

@@ -18,8 +18,9 @@ use Rattle.lists.proofs.Members.{length-below}
 use Rattle.lists.proofs.Filters.{length-filter}
 use Rattle.bits.specs.Rows.{words, isClear}
 use Rattle.codes.specs.declared.Checked.{Checked}
-use Rattle.codes.specs.declared.Checked.the-variants.{Accepted, Refused}
+use Rattle.codes.specs.declared.Checked.the-variants.{Accepted}
 use Rattle.codes.specs.Order.{andThen}
+use Rattle.codes.proofs.Checks.{then-accepted}
 use Rattle.packed.specs.Packed.{rowAt}
 use Rattle.failures.specs.declared.ErrorRate.the-variants as answer
 use Rattle.failures.specs.Failures.{differs, failuresIn, shapeOf, answerOf, ComparableRow, Comparable}
@@ -110,17 +111,13 @@ shape-fits o shots true-shots true-width h =
     let both : (a && b) ≡ true = case-of (a && b) (λ t. t) (λ f. absurd (let g = rw f at h in let z : _≡_ {A = ℕ} 0 1 = cc in omega arith)) in
     (eqb-true true-shots shots (and-left a b both), eqb-true true-width o (and-right a b both))
 
-pub both-accept : (a b : Checked) → andThen a b ≡ Accepted → (a ≡ Accepted) × (b ≡ Accepted)
-both-accept Accepted b h = (refl, h)
-both-accept (Refused r) b h = absurd (let z : _≡_ {A = ℕ} 0 1 = cc in omega arith)
-
 -- ---- the answer
 
 -- where neither decoding nor the shape refuses, the rows may be compared
 pub fits : (o shots true-shots true-width : ℕ) {decoded : Checked} {P : Type 0} → andThen decoded (shapeOf o shots true-shots true-width) ≡ Accepted
     → (decoded ≡ Accepted → true-shots ≡ shots → true-width ≡ o → P) → P
 fits o shots true-shots true-width {decoded} h f =
-    let (a, b) = both-accept decoded (shapeOf o shots true-shots true-width) h in
+    let (a, b) = then-accepted decoded (shapeOf o shots true-shots true-width) h in
     let (p, q) = shape-fits o shots true-shots true-width b in
     f a p q
 

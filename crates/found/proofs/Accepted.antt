@@ -3,7 +3,7 @@ use Prim.Native.Nat.{ℕ, _≤_, _<_}
 use native.Mathlib.Omega.{arith}
 use mathlib.Core.Path.{_≡_, refl}
 use mathlib.Core.List.{List, [], _∷_}
-use mathlib.Core.Bool.{Bool, true, false, not, _&&_, _||_}
+use mathlib.Core.Bool.{true, not, _&&_, _||_}
 use mathlib.Core.Logic.{⊎-elim}
 use lib.Dec.{eqb, ltb}
 use lib.ListN.{length, getD}
@@ -13,23 +13,14 @@ use Rattle.lists.specs.Lists.{member}
 use Rattle.lists.proofs.Truth.{clash, and-left, and-right, or-cases}
 use Rattle.lists.proofs.Members.{below-member}
 use Rattle.bits.specs.Rows.{words, isClear}
-use Rattle.codes.specs.declared.Refusal.{Refusal}
-use Rattle.codes.specs.declared.Checked.{Checked}
-use Rattle.codes.specs.declared.Checked.the-variants.{Accepted, Refused}
+use Rattle.codes.specs.declared.Checked.the-variants.{Accepted}
 use Rattle.codes.specs.declared.Refusal.the-variants.{Limit, Probability, Index}
 use Rattle.codes.specs.Order.{refuseIf, andThen}
+use Rattle.codes.proofs.Checks.{then-accepted, if-accepted}
 use Rattle.codes.specs.Limits.{over, checkCounts, maxDetectors, maxObservables, maxMechanisms}
 use Rattle.steps.specs.Graph.{Graph, Ends, inner, outer, edges, isPair}
 use Rattle.weight.specs.Weight.{weightFits}
 use Rattle.steps.specs.Call.{AcceptedGraph, endsFit, observablesFit, checkEdge, checkEdges}
-
-not-refused : (b : Bool) (r : Refusal) → refuseIf b r ≡ Accepted → b ≡ false
-not-refused true r h = cc
-not-refused false r h = refl
-
-both-accept : (c d : Checked) → andThen c d ≡ Accepted → (c ≡ Accepted) × (d ≡ Accepted)
-both-accept Accepted d h = (refl, h)
-both-accept (Refused r) d h = (h, cc)
 
 -- the three tests of an edge
 record Fits (g : Graph) (e : ℕ) : Type 0 where
@@ -42,19 +33,19 @@ module _ (g : Graph) where
   unfolding checkEdge
   edge-fits e h =
       let w = weightFits (getD (g .edge-weight) e nan) in
-      let (i, p) = both-accept (refuseIf (not (endsFit g e && observablesFit g e)) (Index e)) (refuseIf (not w) (Probability e)) h in
-      let t = not-false (endsFit g e && observablesFit g e) (not-refused (not (endsFit g e && observablesFit g e)) (Index e) i) in
+      let (i, p) = then-accepted (refuseIf (not (endsFit g e && observablesFit g e)) (Index e)) (refuseIf (not w) (Probability e)) h in
+      let t = not-false (endsFit g e && observablesFit g e) (if-accepted (not (endsFit g e && observablesFit g e)) (Index e) i) in
       record {
         ends = and-left (endsFit g e) (observablesFit g e) t;
         row = and-right (endsFit g e) (observablesFit g e) t;
-        weight = not-false w (not-refused (not w) (Probability e) p);
+        weight = not-false w (if-accepted (not w) (Probability e) p);
       }
 
   each-fits : (es : List ℕ) → checkEdges g es ≡ Accepted → (e : ℕ) → member e es ≡ true → Fits g e
   unfolding checkEdges member
   each-fits [] h e m = clash m refl
   each-fits (a ∷ es) h e m =
-      let (p, q) = both-accept (checkEdge g a) (checkEdges g es) h in
+      let (p, q) = then-accepted (checkEdge g a) (checkEdges g es) h in
       ⊎-elim (λ t. rw (eqb-true e a t) (edge-fits a p)) (λ t. each-fits es q e t) (or-cases (eqb e a) (member e es) m)
 
   module _ (a : AcceptedGraph g) where
@@ -64,8 +55,8 @@ module _ (g : Graph) where
     few-detectors : g .detectors ≤ maxDetectors
     unfolding checkCounts
     few-detectors =
-        let (p, q) = both-accept (over maxDetectors (g .detectors)) (andThen (over maxObservables (g .observables)) (over maxMechanisms (length (g .edge-u)))) (a .limits) in
-        ltb-false maxDetectors (g .detectors) (not-refused (ltb maxDetectors (g .detectors)) Limit p)
+        let (p, q) = then-accepted (over maxDetectors (g .detectors)) (andThen (over maxObservables (g .observables)) (over maxMechanisms (length (g .edge-u)))) (a .limits) in
+        ltb-false maxDetectors (g .detectors) (if-accepted (ltb maxDetectors (g .detectors)) Limit p)
 
     pub accepted-ends : Ends g
     unfolding endsFit

@@ -1,5 +1,6 @@
+pub mod Cases
+pub mod Counts
 pub mod Frames
 pub mod Input
-pub mod Counts
-pub mod Cases
 pub mod Laws
+pub mod LineLaws

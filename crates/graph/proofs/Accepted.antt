@@ -21,15 +21,15 @@ use Rattle.codes.specs.declared.Checked.the-variants.{Accepted, Refused}
 use Rattle.codes.specs.Limits.{checkCounts, maxDetectors, maxObservables, maxMechanisms}
 use Rattle.steps.specs.Graph.{Graph, boundary, edges}
 use Rattle.steps.specs.Call.{endsFit, observablesFit, checkEdge, checkEdges, AcceptedGraph}
-use Rattle.lent.specs.Lent.{endsOf}
-use Rattle.lent.proofs.Edges.{any-default, length-map, not-not}
+use Rattle.lent_graph.specs.Lent.{endsOf}
+use Rattle.lent_graph.proofs.Edges.{any-default, length-map, not-not}
 use Rattle.dem.specs.Model.{ErrorMechanism, checkMechanism}
 use Rattle.dem.specs.Laws.{Fits}
 use Rattle.dem.proofs.Accepted.{mechanism-fits}
-use Rattle.graph.specs.Compile.{Edge, Edges, into, refused, greater, share, edgeOf, joinBy, isZero, joinNext, next, edgesFrom, compile, obsRow, graphBy}
+use Rattle.edges.specs.Compile.{Edge, Edges, into, refused, greater, share, edgeOf, joinBy, isZero, joinNext, next, edgesFrom, compile, obsRow, graphBy}
 use Rattle.graph.specs.Laws.{Within}
-use Rattle.graph.proofs.Slices.{row-long}
-use Rattle.graph.proofs.Sharing.{blank}
+use Rattle.edges.proofs.Slices.{row-long}
+use Rattle.edges.proofs.Sharing.{blank}
 use Rattle.graph.proofs.Going.{edgesIn, edges-few}
 
 module _ (d : ℕ) where

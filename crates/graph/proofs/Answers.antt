@@ -7,6 +7,7 @@ use mathlib.Core.Bool.{Bool, true, false, not, _&&_}
 use lib.IntN.{pos}
 use lib.Ieee.{fin}
 use lib.ListN.{length, replicate}
+use lib.Dec.{leb}
 use Rattle.codes.specs.declared.Refusal.{Refusal}
 use Rattle.codes.specs.declared.Refusal.the-variants.{Short}
 use Rattle.codes.specs.declared.Checked.{Checked}
@@ -14,11 +15,12 @@ use Rattle.codes.specs.declared.Checked.the-variants.{Accepted, Refused}
 use Rattle.codes.specs.Order.{refuseIf}
 use Rattle.codes.specs.Limits.{checkCounts}
 use Rattle.dem.specs.Tables.{Tables, modelOf, tablesHold}
-use Rattle.dem.proofs.Accepted.{unless-accepted}
+use Rattle.codes.proofs.Checks.{unless-accepted}
+use Rattle.lent_graph.specs.Lent.{tablesLong}
 use Rattle.graph.specs.declared.Compiled.{Compiled}
 use Rattle.graph.specs.declared.Compiled.the-variants as compiled
-use Rattle.graph.specs.Compile.{Edges, into, refused, compile, graphBy}
-use Rattle.graph.specs.Tables.{Slices, filled}
+use Rattle.edges.specs.Compile.{Edges, into, refused, compile, graphBy}
+use Rattle.edges.specs.Tables.{Slices, filled}
 use Rattle.graph.specs.Outcome.{sheetOf, callRow, answerOf, tableLeft, slicesLong, checkSlices, outcome, Compiles, Joined}
 
 -- ---- the check
@@ -42,6 +44,29 @@ module _ (d o m : ℕ) (t : Tables) (out : Slices) (first next : List ℕ) where
     pub by-slices : refuseIf (not (tablesHold m t)) Short ≡ Accepted → refuseIf (not (slicesLong d o m out first next)) Short ≡ checkSlices d o m t out first next
     unfolding checkSlices
     by-slices h = rw (← a, b, unless-accepted (tablesHold m t) Short h)
+
+    -- by the answer on the model's tables
+    module _ (x : Checked) (e : x ≡ refuseIf (not (tablesHold m t)) Short) where
+      pub model-refused : (r : Refusal) → x ≡ Refused r → Refused r ≡ checkSlices d o m t out first next
+      model-refused r h = short-model r (sym e ∙ h)
+
+      module _ (f : x ≡ Accepted) where
+        rest : refuseIf (not (slicesLong d o m out first next)) Short ≡ checkSlices d o m t out first next
+        rest = by-slices (sym e ∙ f)
+
+        module _ (p : Bool) (g : p ≡ tablesLong o m (out .edge-u) (out .edge-v) (out .edge-weight) (out .edge-obs)) where
+          pub tables-short : p ≡ false → Refused Short ≡ checkSlices d o m t out first next
+          unfolding slicesLong
+          tables-short h = sym (sym rest ∙ simp (sym g ∙ h))
+
+          module _ (h : p ≡ true) (q : Bool) (i : q ≡ (leb m (length (out .edge-p)) && (leb d (length first) && leb m (length next)))) where
+            pub scratch-short : q ≡ false → Refused Short ≡ checkSlices d o m t out first next
+            unfolding slicesLong
+            scratch-short j = sym (sym rest ∙ simp (sym g ∙ h, sym i ∙ j))
+
+            pub all-long : q ≡ true → Accepted ≡ checkSlices d o m t out first next
+            unfolding slicesLong
+            all-long j = sym (sym rest ∙ simp (sym g ∙ h, sym i ∙ j))
 
 -- ---- the call
 

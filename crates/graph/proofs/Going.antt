@@ -11,12 +11,12 @@ use lib.ListN.{length, replicate, getD-replicate, length-replicate}
 use borrow.Author.Tests.{leb-true}
 use Rattle.lists.proofs.Truth.{cond-case, and-left, and-right}
 use Rattle.bits.specs.Rows.{words}
-use Rattle.lent.specs.Lent.{tablesLong}
-use Rattle.lent.proofs.Laws.{long}
+use Rattle.lent_graph.specs.Lent.{tablesLong}
+use Rattle.lent_graph.proofs.Laws.{long}
 use Rattle.codes.specs.Order.{refuseIf}
 use Rattle.codes.specs.Limits.{checkCounts, maxDetectors, maxObservables, maxMechanisms}
 use Rattle.codes.specs.declared.Refusal.the-variants.{Short}
-use Rattle.dem.proofs.Accepted.{then-accepted, unless-accepted, counts-within}
+use Rattle.codes.proofs.Checks.{then-accepted, unless-accepted, counts-within}
 use Rattle.codes.specs.declared.Refusal.{Refusal}
 use Rattle.codes.specs.declared.Checked.{Checked}
 use Rattle.codes.specs.declared.Checked.the-variants.{Accepted, Refused}
@@ -29,9 +29,9 @@ use Rattle.dem.proofs.Positions.{model-split, first-from}
 use Rattle.dem.proofs.Laws.{count, split, place-first}
 use Rattle.graph.specs.declared.Compiled.{Compiled}
 use Rattle.graph.specs.declared.Compiled.the-variants as compiled
-use Rattle.graph.specs.Compile.{Edge, Edges, into, refused, share, joinBy, isZero, joinNext, next, edgesFrom, compile}
-use Rattle.graph.specs.Chains.{chainEnd, lastWith, Chained}
-use Rattle.graph.specs.Tables.{Slices, filled, Room}
+use Rattle.edges.specs.Compile.{Edge, Edges, into, refused, share, joinBy, isZero, joinNext, next, edgesFrom, compile}
+use Rattle.edges.specs.Chains.{chainEnd, lastWith, Chained}
+use Rattle.edges.specs.Tables.{Slices, filled, Room}
 use Rattle.graph.specs.Outcome.{slicesLong, checkSlices, Joined, Joins, ChainedBy}
 
 abbrev pub edgesIn : Edges → List Edge

@@ -20,8 +20,8 @@ use Rattle.dem.specs.Tables.{firstOf}
 use Rattle.dem.specs.Positions.{mechanismAt, Inside}
 use Rattle.dem.proofs.Accepted.{mechanism-fits}
 use Rattle.graph.specs.declared.Compiled.the-variants as compiled
-use Rattle.graph.specs.Compile.{Edge, Edges, into, refused, share, edgeOf, joinBy, isZero, joinNext}
-use Rattle.graph.specs.Tables.{Slices, edgeWith, secondEnd, Shares}
+use Rattle.edges.specs.Compile.{Edge, Edges, into, refused, share, edgeOf, joinBy, isZero, joinNext}
+use Rattle.edges.specs.Tables.{Slices, edgeWith, secondEnd, Shares}
 use Rattle.graph.specs.Outcome.{Joins}
 
 -- over two detectors

@@ -18,18 +18,18 @@ use Rattle.codes.specs.declared.Checked.the-variants.{Accepted, Refused}
 use Rattle.codes.specs.Limits.{checkCounts, maxMechanisms}
 use Rattle.steps.specs.Graph.{edges}
 use Rattle.steps.specs.Call.{graphOf, checkEdges, AcceptedGraph}
-use Rattle.lent.specs.Lent.{tablesLong, checkLent}
-use Rattle.lent.proofs.Edges.{length-map, map-below}
+use Rattle.lent_graph.specs.Lent.{tablesLong, checkLent}
+use Rattle.lent_graph.proofs.Edges.{length-map, map-below}
 use Rattle.dem.specs.Model.{ErrorMechanism}
 use Rattle.dem.specs.Tables.{Tables, modelOf, written}
 use Rattle.dem.proofs.Laws.{count}
 use Rattle.graph.specs.declared.Compiled.the-variants as compiled
-use Rattle.graph.specs.Compile.{Edge, Edges, into, refused, compile, obsRow, graphBy}
-use Rattle.graph.specs.Tables.{Slices, flat}
+use Rattle.edges.specs.Compile.{Edge, Edges, into, refused, compile, obsRow, graphBy}
+use Rattle.edges.specs.Tables.{Slices, flat}
 use Rattle.graph.specs.Outcome.{answerOf, tableLeft, checkSlices, onlyThen, outcome, Compiles}
 use Rattle.graph.specs.Laws.{leftU, leftV, leftWeight, leftObs, Within, Laws}
-use Rattle.graph.proofs.Slices.{row-long}
-use Rattle.graph.proofs.Sharing.{blank}
+use Rattle.edges.proofs.Slices.{row-long}
+use Rattle.edges.proofs.Sharing.{blank}
 use Rattle.graph.proofs.Going.{held}
 use Rattle.graph.proofs.Accepted.{map-at, accepted}
 

@@ -1,8 +1,3 @@
-pub mod Chains
-pub mod Fill
-pub mod Rows
-pub mod Slices
-pub mod Sharing
 pub mod Joining
 pub mod Going
 pub mod Answers

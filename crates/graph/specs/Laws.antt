@@ -11,10 +11,10 @@ use Rattle.codes.specs.Limits.{maxDetectors, maxObservables, maxMechanisms}
 use Rattle.dem.specs.Model.{ErrorMechanism}
 use Rattle.dem.specs.Tables.{Tables}
 use Rattle.steps.specs.Call.{graphOf, AcceptedGraph}
-use Rattle.lent.specs.Lent.{checkLent}
-use Rattle.graph.specs.Compile.{Edge, into, compile, graphBy}
+use Rattle.lent_graph.specs.Lent.{checkLent}
+use Rattle.edges.specs.Compile.{Edge, into, compile, graphBy}
 use Rattle.graph.specs.declared.Compiled.the-variants as compiled
-use Rattle.graph.specs.Tables.{Slices, flat}
+use Rattle.edges.specs.Tables.{Slices, flat}
 use Rattle.graph.specs.Outcome.{tableLeft, outcome, Compiles}
 
 module _ (d o : ℕ) where

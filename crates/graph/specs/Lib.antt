@@ -1,6 +1,2 @@
-pub mod Compile
-pub mod Chains
-pub mod Tables
 pub mod Outcome
 pub mod Laws
-pub mod Cases

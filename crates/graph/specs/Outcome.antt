@@ -14,12 +14,12 @@ use Rattle.codes.specs.declared.Checked.the-variants.{Accepted, Refused}
 use Rattle.codes.specs.Order.{refuseIf, andThen}
 use Rattle.codes.specs.Limits.{checkCounts}
 use Rattle.dem.specs.Tables.{Tables, modelOf, tablesHold, written}
-use Rattle.lent.specs.Lent.{tablesLong}
+use Rattle.lent_graph.specs.Lent.{tablesLong}
 use Rattle.graph.specs.declared.Compiled.{Compiled}
 use Rattle.graph.specs.declared.Compiled.the-variants as compiled
-use Rattle.graph.specs.Compile.{Edge, Edges, into, refused, compile, graphBy}
-use Rattle.graph.specs.Tables.{Slices, flat, filled}
-use Rattle.graph.specs.Chains.{Chained}
+use Rattle.edges.specs.Compile.{Edge, Edges, into, refused, compile, graphBy}
+use Rattle.edges.specs.Tables.{Slices, flat, filled}
+use Rattle.edges.specs.Chains.{Chained}
 
 -- ---- the answer, and what is left
 

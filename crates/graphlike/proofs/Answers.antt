@@ -17,18 +17,19 @@ use Rattle.codes.specs.Limits.{checkCounts}
 use Rattle.dem.specs.Model.{Symptom, ErrorMechanism, listFits, symptomFits, symptomsFit, listsFit, checkModel}
 use Rattle.dem.specs.Tables.{Tables, modelOf, componentsIn, entriesIn, columnsHold, listsHold, tablesHold, tablesZero}
 use Rattle.dem.specs.Decompose.{Places, Split, into, refused, decompose}
-use Rattle.dem.proofs.Accepted.{then-accepted, unless-accepted, counts-within, model-fits}
+use Rattle.dem.proofs.Accepted.{model-fits}
+use Rattle.codes.proofs.Checks.{then-accepted, unless-accepted, counts-within}
 use Rattle.dem.proofs.Laws.{count}
 use Rattle.cover.proofs.Steps.{fits-wider}
 use Rattle.suggested.specs.declared.Size.{Size}
 use Rattle.suggested.specs.Held.{placesOf}
-use Rattle.decompose.specs.declared.Counts.{Counts}
-use Rattle.decomposed.specs.declared.Scratch.{Scratch}
-use Rattle.decomposed.specs.declared.Decomposed.{Decomposed}
-use Rattle.decomposed.specs.declared.Decomposed.the-variants as decomposed
-use Rattle.decomposed.specs.Call.{roomOf, scratchLong, long, checked, outcome, sheetOf, callRow, answerOf, Decomposes}
-use Rattle.decomposed.specs.Made.{Made}
-use Rattle.decomposed.specs.Started.{Decomposable}
+use Rattle.split_model.specs.declared.Counts.{Counts}
+use Rattle.decompose.specs.declared.Scratch.{Scratch}
+use Rattle.decompose.specs.declared.Decomposed.{Decomposed}
+use Rattle.decompose.specs.declared.Decomposed.the-variants as decomposed
+use Rattle.decompose.specs.Call.{roomOf, scratchLong, long, checked, outcome, sheetOf, callRow, answerOf, Decomposes}
+use Rattle.decompose.specs.Made.{Made}
+use Rattle.decompose.specs.Started.{Decomposable}
 use Rattle.graphlike.specs.Lent.{scratchOf, Lent}
 
 -- ---- a model within fewer observables is within their limit
@@ -60,12 +61,6 @@ lists-wider D O l m h =
 -- ---- the check
 
 -- two tests, the second tried where the first holds
-pub both : (a b c d : Bool) → a ≡ c → b ≡ d → a ≡ true → b ≡ (c && d)
-both a b c d p q t = rw (← p, t, ← q)
-
-pub not-first : (a c d : Bool) → a ≡ c → a ≡ false → a ≡ (c && d)
-not-first a c d p f = rw (← p, f)
-
 module _ (D O n : ℕ) (t was : Tables) (s : Scratch) where
   pub over-limit : (c : Checked) (r : Refusal) → c ≡ checkCounts D O n → c ≡ Refused r → Refused r ≡ checked D O n t was s
   unfolding checked

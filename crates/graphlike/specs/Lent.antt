@@ -5,9 +5,9 @@ use mathlib.Core.List.{List}
 use mathlib.Core.Bool.{true}
 use lib.ListN.{length}
 use Rattle.dem.specs.Tables.{Tables, componentsIn, entriesIn, columnsHold, listsHold}
-use Rattle.decomposed.specs.declared.Scratch.{Scratch}
-use Rattle.decomposed.specs.Call.{scratchLong}
-use Rattle.decomposed.specs.Started.{Fitting}
+use Rattle.decompose.specs.declared.Scratch.{Scratch}
+use Rattle.decompose.specs.Call.{scratchLong}
+use Rattle.decompose.specs.Started.{Fitting}
 
 -- the lengths of the scratch slices
 abbrev pub scratchOf : List ℕ → List ℕ → List ℕ → List ℕ → List ℕ → List ℕ → List ℕ → List ℕ → List ℕ → List ℕ → Scratch

@@ -1,100 +1,15 @@
 // Document 01, "Decomposed model" and "Codes on the marking sheet": the call, with its refusals in their order.
 ghost use mathlib.Core.Path.{_≡_};
-ghost use mathlib.Core.Bool.{_&&_};
-ghost use Prim.Native.Nat.{min, _≤_};
-ghost use lib.ListN.{length};
-ghost use lib.Dec.{leb};
-ghost use Rattle.codes.specs.Limits.{maxMechanisms};
-ghost use Rattle.dem.specs.Tables.{modelOf, columnsHold, listsHold, tablesZero};
+ghost use Rattle.dem.specs.Tables.{modelOf, tablesZero};
 ghost use Rattle.dem.specs.Positions.{tables};
 ghost use Rattle.dem.specs.Decompose.{decompose};
-ghost use Rattle.decomposed.specs.Call.{roomOf, scratchLong, checked, outcome, Decomposes};
+ghost use Rattle.decompose.specs.Call.{roomOf, checked, outcome, Decomposes};
 ghost use Rattle.graphlike.specs.Lent.{scratchOf, Lent};
 use codes::Checked;
 use codes::Refusal;
-use decomposed::Decomposed;
-use decomposed::Scratch;
-use dem::Place;
+use decompose::Decomposed;
+use decompose::Scratch;
 use suggested::Size;
-
-// ---- lengths
-
-// Whether a slice is long enough, and so are the others.
-fn fits(need: usize, len: usize, others: bool) -> bool
-    ensures { λ r. ⌜ r ≡ (leb need len && others) ⌝ }
-{
-    need <= len && others
-}
-
-fn least(a: usize, b: usize) -> usize
-    ensures { λ r. ⌜ r ≡ min a b ⌝ }
-{
-    if a < b {
-        return a;
-    }
-    b
-}
-
-// The output tables are long enough for the model given.
-fn output_long(
-    mechanisms: usize,
-    end: Place,
-    out_probability: &[f64],
-    out_detector_counts: &[u8],
-    out_observable_counts: &[u8],
-    out_component_counts: &[u8],
-    out_component_detectors: &[u8],
-    out_component_observables: &[u8],
-    out_entries: &[u32],
-) -> bool
-    ensures { λ r. ⌜ r ≡ (columnsHold mechanisms (tables (now («out_probability» .entry)) (now («out_detector_counts» .entry)) (now («out_observable_counts» .entry)) (now («out_component_counts» .entry)) (now («out_component_detectors» .entry)) (now («out_component_observables» .entry)) (now («out_entries» .entry))) && listsHold (end .component) (end .entry) (tables (now («out_probability» .entry)) (now («out_detector_counts» .entry)) (now («out_observable_counts» .entry)) (now («out_component_counts» .entry)) (now («out_component_detectors» .entry)) (now («out_component_observables» .entry)) (now («out_entries» .entry)))) ⌝ }
-{
-    let n = mechanisms;
-    let c = end.component;
-    let e = end.entry;
-    let lists = fits(
-        c,
-        out_component_detectors.len(),
-        fits(c, out_component_observables.len(), e <= out_entries.len()),
-    );
-    let columns = fits(
-        n,
-        out_probability.len(),
-        fits(
-            n,
-            out_detector_counts.len(),
-            fits(
-                n,
-                out_observable_counts.len(),
-                n <= out_component_counts.len(),
-            ),
-        ),
-    );
-    columns && lists
-}
-
-// And so are the scratch slices: a mechanism may bring 16 more.
-fn scratch_long(detectors: usize, mechanisms: usize, s: Scratch) -> bool
-    requires { ⌜ mechanisms ≤ maxMechanisms ⌝ }
-    ensures { λ r. ⌜ r ≡ scratchLong detectors mechanisms s ⌝ }
-{
-    let d = detectors;
-    let n = mechanisms;
-    let most = 17 * n;
-    let words = fits(n, s.words0, fits(n, s.words1, n <= s.earlier));
-    let candidates = fits(n, s.next_of, fits(n, s.numbers, fits(n, s.masks, words)));
-    fits(
-        most,
-        s.starts,
-        fits(
-            most,
-            s.before,
-            fits(d, s.last_of, fits(d, s.first_of, candidates)),
-        ),
-    )
-}
-
-// ---- the check
 
 // The limits (1), all lengths (2), then all mechanisms in order. Long for its parameters, one a line.
 fn check(
@@ -144,7 +59,7 @@ fn check(
         component_detectors,
         component_observables,
     );
-    if !output_long(
+    if !model_lengths::output_long(
         mechanisms,
         end,
         out_probability,
@@ -157,7 +72,7 @@ fn check(
     ) {
         return Checked::Refused(Refusal::Short);
     }
-    if !scratch_long(detectors, mechanisms, scratch) {
+    if !model_lengths::scratch_long(detectors, mechanisms, scratch) {
         return Checked::Refused(Refusal::Short);
     }
     dem::check_mechanisms(
@@ -174,8 +89,6 @@ fn check(
     )
 }
 
-// ---- the call
-
 // A refusal leaves every output table zero, whole.
 fn refuse(
     r: Refusal,
@@ -189,7 +102,7 @@ fn refuse(
 ) -> Decomposed
     ensures { λ x. ⌜ (x ≡ Decomposed.Refused r) × (tables (now («out_probability» .exit)) (now («out_detector_counts» .exit)) (now («out_observable_counts» .exit)) (now («out_component_counts» .exit)) (now («out_component_detectors» .exit)) (now («out_component_observables» .exit)) (now («out_entries» .exit)) ≡ tablesZero (tables (now («out_probability» .entry)) (now («out_detector_counts» .entry)) (now («out_observable_counts» .entry)) (now («out_component_counts» .entry)) (now («out_component_detectors» .entry)) (now («out_component_observables» .entry)) (now («out_entries» .entry)))) ⌝ }
 {
-    decompose::zero_tables(
+    split_model::zero_tables(
         out_probability,
         out_detector_counts,
         out_observable_counts,
@@ -233,13 +146,13 @@ fn decompose_accepted(
     requires { ⌜ Lent detectors mechanisms (tables (now probability) (now «detector_counts») (now «observable_counts») (now «component_counts») (now «component_detectors») (now «component_observables») (now entries)) (tables (now «out_probability») (now «out_detector_counts») (now «out_observable_counts») (now «out_component_counts») (now «out_component_detectors») (now «out_component_observables») (now «out_entries»)) (scratchOf (now starts) (now before) (now «last_of») (now «first_of») (now «next_of») (now numbers) (now masks) (now words0) (now words1) (now earlier)) ⌝ }
     ensures { λ r. ⌜ Decomposes (decompose (roomOf (tables (now («out_probability» .entry)) (now («out_detector_counts» .entry)) (now («out_observable_counts» .entry)) (now («out_component_counts» .entry)) (now («out_component_detectors» .entry)) (now («out_component_observables» .entry)) (now («out_entries» .entry)))) (modelOf mechanisms (tables (now (probability .entry)) (now («detector_counts» .entry)) (now («observable_counts» .entry)) (now («component_counts» .entry)) (now («component_detectors» .entry)) (now («component_observables» .entry)) (now (entries .entry))))) r (tables (now («out_probability» .entry)) (now («out_detector_counts» .entry)) (now («out_observable_counts» .entry)) (now («out_component_counts» .entry)) (now («out_component_detectors» .entry)) (now («out_component_observables» .entry)) (now («out_entries» .entry))) (tables (now («out_probability» .exit)) (now («out_detector_counts» .exit)) (now («out_observable_counts» .exit)) (now («out_component_counts» .exit)) (now («out_component_detectors» .exit)) (now («out_component_observables» .exit)) (now («out_entries» .exit))) ⌝ }
 {
-    let fewest = least(out_observable_counts.len(), out_component_counts.len());
-    let fewer = least(out_detector_counts.len(), fewest);
+    let fewest = model_lengths::least(out_observable_counts.len(), out_component_counts.len());
+    let fewer = model_lengths::least(out_detector_counts.len(), fewest);
     let room = Size {
-        mechanisms: least(out_probability.len(), fewer),
+        mechanisms: model_lengths::least(out_probability.len(), fewer),
         entries: out_entries.len(),
     };
-    let made = decomposed::decompose_checked(
+    let made = decompose::decompose_checked(
         mechanisms,
         room,
         probability,

@@ -13,7 +13,7 @@ use borrow.Author.Tests.{eqb-true}
 use Rattle.weight.specs.Weight.{weightFits}
 use Rattle.steps.specs.Growth.{tolerance}
 use Rattle.lists.proofs.Truth.{clash, and-left, and-right, or-cases}
-use Rattle.rounding.proofs.Values.{int-units}
+use Rattle.weight.proofs.Values.{int-units}
 use Rattle.growth_laws.proofs.Signs.{Plus, FromZero, size-none, div-from, mul-from, add-plus, cross-le, sub-from}
 use Rattle.growth_laws.proofs.Reached.{Under, minus-under, not-reached}
 use Rattle.growth_laws.proofs.Takes.{nearly, takes-finite}

@@ -16,7 +16,7 @@ use lib.Ieee.Positive.{through}
 use lib.Ieee.Scale.{finite}
 use borrow.Author.Tests.{leb-true, leb-false, eq-eqb, ltb-false}
 use Rattle.lists.proofs.Truth.{case-of, clash}
-use Rattle.rounding.proofs.Values.{Units}
+use Rattle.weight.proofs.Values.{Units}
 use Rattle.growth_laws.proofs.Signs.{Plus, FromZero, round-plus, le-cross, cross-le}
 
 -- ---- what the format holds is its own rounding

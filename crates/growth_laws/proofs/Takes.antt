@@ -13,10 +13,10 @@ use lib.Ieee.Bits.{is-true}
 use lib.Ieee.Fits.{down-pos}
 use lib.Ieee.Order.{le-of-values}
 use lib.Ieee.Scale.{grid}
-use Rattle.rounding.proofs.Err.{U, Within, off, grid-near}
-use Rattle.rounding.proofs.Approx.{Near}
-use Rattle.rounding.proofs.Values.{Units, round-units}
-use Rattle.rounding.proofs.Ops.{under, add-op, mul-op, div-op}
+use Rattle.weight.proofs.Err.{U, Within, off, grid-near}
+use Rattle.weight.proofs.Approx.{Near}
+use Rattle.weight.proofs.Values.{Units, round-units}
+use Rattle.weight.proofs.Ops.{under, add-op, mul-op, div-op}
 use Rattle.growth_laws.proofs.Signs.{le-cross, sub-is}
 use Rattle.growth_laws.proofs.Reached.{held-units}
 

@@ -1,14 +1,17 @@
 -- Laws of filters, of one more element, and of stores. Assumes nothing.
-use Prim.Native.Nat.{ℕ, zero, suc, _+_, _<_, _≤_}
+use Prim.Native.Nat.{ℕ, zero, suc, _+_, _<_, _≤_, min}
+use native.Mathlib.Nat.{add-zero}
 use native.Mathlib.Omega.{arith}
 use native.Mathlib.Numerals.{add-one}
 use mathlib.Core.Path.{_≡_, refl, sym, ap₂}
-use mathlib.Core.List.{List, [], _∷_, _++_, map}
-use mathlib.Core.Bool.{Bool, true, false, cond, _&&_, _||_, or-false, or-assoc}
+use mathlib.Core.List.{List, [], _∷_, _++_, map, append-assoc}
+use mathlib.Core.Bool.{Bool, true, false, cond, _||_, or-false, or-assoc}
 use mathlib.Core.Logic.{⊎-elim}
 use lib.Dec.{eqb}
 use lib.ListN.{length, getD, set, take}
-use lib.Seq.{getD-set-same, getD-set-other, take-suc, take-suc-set, slice, slice-cons}
+use mir.Val.{boolByte}
+use Rattle.steps.specs.Growth.{one}
+use lib.Seq.{getD-set-same, getD-set-other, take-set-le, take-suc, take-suc-set, slice, slice-cons}
 use borrow.Author.Tests.{eqb-true, eqb-false}
 use Rattle.lists.specs.Lists.{filter, member}
 use Rattle.lists.proofs.Truth.{case-of, clash, same-eqb, or-intro, or-cases}
@@ -22,19 +25,6 @@ filter-one p a t = rw t
 pub filter-none : (p : ℕ → Bool) (a : ℕ) → p a ≡ false → filter p (a ∷ []) ≡ []
 unfolding filter
 filter-none p a t = rw t
-
-pub filter-cong : (p q : ℕ → Bool) (l : List ℕ) → ((a : ℕ) → member a l ≡ true → p a ≡ q a) → filter p l ≡ filter q l
-unfolding filter member
-filter-cong p q [] h = refl
-filter-cong p q (a ∷ l) h =
-    rw (h a (rw (same-eqb a)), filter-cong p q l (λ b m. h b (or-intro (eqb b a) (member b l) m)))
-
-pub filter-filter : (p q : ℕ → Bool) (l : List ℕ) → filter q (filter p l) ≡ filter (λ a. p a && q a) l
-unfolding filter
-filter-filter p q [] = refl
-filter-filter p q (a ∷ l) = case-of (p a)
-    (λ t. case-of (q a) (λ u. rw (t, u, filter-filter p q l)) (λ u. rw (t, u, filter-filter p q l)))
-    (λ f. rw (f, filter-filter p q l))
 
 -- functions that agree on a list map it alike
 pub map-cong : (f h : ℕ → ℕ) (l : List ℕ) → ((a : ℕ) → member a l ≡ true → f a ≡ h a) → map f l ≡ map h l
@@ -73,3 +63,20 @@ member-take P (b ∷ l) (suc n) h a m = ⊎-elim
     (λ t. rw (eqb-true a b t) (h 0 (omega arith)))
     (λ t. member-take P l n (λ i k. h (suc i) (omega arith)) a t)
     (or-cases (eqb a b) (member a (take n l)) m)
+
+-- ---- an entry written before it is known whether it is kept
+
+pub byte-one : (b : Bool) → boolByte b ≡ one b
+byte-one true = refl
+byte-one false = refl
+
+-- at most 1, whatever the test is
+pub byte-low : (b : Bool) → boolByte b ≡ min (one b) 1
+byte-low true = refl
+byte-low false = refl
+
+-- v is written past what is listed; h makes what is written of what is listed
+pub listed : (h : List ℕ → List ℕ) (e v : ℕ) (rest : List ℕ) → h (e ∷ rest) ≡ v ∷ h rest → (out : List ℕ) (at : ℕ) → at < length out → (b : Bool)
+    → take (at + boolByte b) (set out at v) ++ h rest ≡ take at out ++ h (cond b (e ∷ rest) rest)
+listed h e v rest q out at k true = rw (put-next out at v k, q) (append-assoc (take at out) (v ∷ []) (h rest))
+listed h e v rest q out at k false = rw (add-zero at, take-set-le at out at v (omega arith))

@@ -1,13 +1,13 @@
 -- Texts: their lengths, and one after another.
 use Prim.Native.Nat.{ℕ, zero, suc, _+_, _-_, _*_, _≤_, _<_}
-use native.Mathlib.Nat.{add-zero}
 use native.Mathlib.Omega.{arith}
 use native.Mathlib.Numerals.{add-one}
 use mathlib.Core.Path.{_≡_, refl, sym, ap, _∙_}
 use mathlib.Core.List.{List, [], _∷_, _++_}
-use lib.ListN.{length, getD, drop, set, length-append, drop-of-length-le}
+use lib.ListN.{length, getD, drop, length-append, drop-of-length-le}
 use lib.Seq.{sets, drop-cons}
 use Rattle.hex.specs.Hex.{textOf, bytesIn, bytesEach}
+use Rattle.lists.proofs.Slices.{sets-append}
 
 pub text-append : (l m : List ℕ) → textOf (l ++ m) ≡ textOf l ++ textOf m
 unfolding textOf
@@ -28,13 +28,6 @@ pub each-long : (k : ℕ) (l : List ℕ) → length (bytesEach k l) ≡ k * leng
 unfolding bytesEach
 each-long k [] = omega arith
 each-long k (x ∷ l) = omega (arith, length-append (bytesIn k x) (bytesEach k l), in-long k x, each-long k l)
-
--- a run of stores in two parts
-pub sets-append : (out : List ℕ) (j : ℕ) (l m : List ℕ) → sets out j (l ++ m) ≡ sets (sets out j l) (j + length l) m
-sets-append out j [] m = ap (λ (k : ℕ). sets out k m) (sym (add-zero j))
-sets-append out j (x ∷ l) m =
-    let q : suc j + length l ≡ j + suc (length l) = omega arith in
-    sets-append (set out j x) (suc j) l m ∙ ap (λ (k : ℕ). sets (sets (set out j x) (suc j) l) k m) q
 
 -- number i of the list, k bytes at place j
 pub each-turn : (k i j : ℕ) (l out : List ℕ) → i < length l

@@ -1,21 +1,21 @@
 -- The last line, and the end.
-use Prim.Native.Nat.{ℕ, suc, _+_, _-_, _≤_}
+use Prim.Native.Nat.{ℕ, _+_, _-_, _≤_}
 use native.Mathlib.Omega.{arith}
 use native.Mathlib.Nat.{sub-zero}
 use mathlib.Core.Path.{_≡_, refl, sym, ap, ap₂, _∙_, subst}
 use mathlib.Core.Bool.{true}
-use mathlib.Core.List.{List, [], _∷_, _++_, append-assoc, append-nil}
+use mathlib.Core.List.{List, [], _∷_, _++_, append-assoc}
 use lib.ListN.{length, take, drop, length-append, length-take, take-append-drop}
 use lib.Seq.{drop-append-le, length-take-le}
 use borrow.Rule.Slice.PartMut.{midOf, putMid, mid-len, same-len-mid}
 use Rattle.dem.specs.Tables.{written}
-use Rattle.graph.specs.Tables.{Slices}
+use Rattle.edges.specs.Tables.{Slices}
 use Rattle.frames.specs.Input.{atEnd, linesOf}
-use Rattle.line_laws.specs.Laws.{unended}
-use Rattle.line_laws.proofs.Cut.{last}
+use Rattle.frames.specs.LineLaws.{unended}
+use Rattle.frames.proofs.Cut.{last}
 use Rattle.reader.specs.Columns.{Columns}
 use Rattle.shot_reply.proofs.Texts.{two-lines}
-use Rattle.last_line.specs.Last.{refusalText, lastText}
+use Rattle.replies.specs.Last.{lastText}
 use Rattle.session.specs.declared.Numbers.{Numbers}
 use Rattle.session.specs.declared.Told.{Told}
 use Rattle.session.specs.declared.Told.the-variants as told

@@ -4,7 +4,7 @@ use mathlib.Core.Path.{_≡_}
 use mathlib.Core.List.{List}
 use lib.ListN.{length}
 use Rattle.dem.specs.Tables.{written}
-use Rattle.graph.specs.Tables.{Slices}
+use Rattle.edges.specs.Tables.{Slices}
 use Rattle.frames.specs.Input.{linesOf}
 use Rattle.reader.specs.Columns.{Columns}
 use Rattle.session.specs.declared.Numbers.{Numbers}

@@ -1,15 +1,15 @@
-// Document 01, "Frames": the end of an input. The last line needs no line feed; then 8f, or the refusal of an end that comes too early.
+// Document 01, "Frames": the last line of an input, and the line after it.
 use session::Numbers;
 use session::Told;
 ghost use mathlib.Core.Path.{_≡_};
-ghost use mathlib.Core.Bool.{true};
 ghost use mathlib.Core.List.{[]};
-ghost use Prim.Native.Nat.{_≤_};
+ghost use Prim.Native.Nat.{_+_, _-_, _≤_};
 ghost use lib.ListN.{length, take};
-ghost use Rattle.graph.specs.Tables.{slices};
-ghost use Rattle.line_laws.specs.Laws.{unended};
+ghost use Rattle.edges.specs.Tables.{slices};
 ghost use Rattle.reader.specs.Columns.{columns};
 ghost use Rattle.session.specs.Kept.{Kept};
+ghost use mathlib.Core.Bool.{true};
+ghost use Rattle.frames.specs.LineLaws.{unended};
 ghost use Rattle.input_end.specs.Finish.{Finishes};
 
 // All that is left to write, at the front of an output of 1,101 bytes and more. Long for its parameters, one a line.

@@ -6,3 +6,4 @@ pub mod Singles
 pub mod Ranges
 pub mod Slices
 pub mod Filters
+pub mod Pigeonhole

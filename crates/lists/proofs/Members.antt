@@ -98,7 +98,7 @@ any-at p l a m t = case-of (any p l) (λ h. h) (λ f. clash t (any-none p l f a 
 
 -- ---- lengths and elements
 
-length-from : (n a : ℕ) → length (from n a) ≡ n
+pub length-from : (n a : ℕ) → length (from n a) ≡ n
 unfolding from
 length-from zero a = refl
 length-from (suc n) a = ap suc (length-from n (suc a))
@@ -116,6 +116,10 @@ getD-from f z (suc n) a (suc i) h = getD-from f z n (suc a) i (le-of-suc-le-suc 
 pub getD-below : {B : Type 0} (f : ℕ → B) (z : B) (n i : ℕ) → i < n → getD (map f (below n)) i z ≡ f i
 unfolding below
 getD-below f z n i h = getD-from f z n 0 i h ∙ ap f (omega arith)
+
+pub map-snoc : {A B : Type 0} (f : A → B) (l : List A) (x : A) → map f (l ++ (x ∷ [])) ≡ map f l ++ (f x ∷ [])
+map-snoc f [] x = refl
+map-snoc {A} {B} f (y ∷ l) x = ap (λ (r : List B). f y ∷ r) (map-snoc f l x)
 
 pub getD-any : {B : Type 0} (l : List B) (i : ℕ) (y z : B) → i < length l → getD l i y ≡ getD l i z
 getD-any [] i y z h = absurd (not-suc-le-zero h)

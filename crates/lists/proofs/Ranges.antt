@@ -1,6 +1,7 @@
 -- Ranges, `from n a`, and what of them passes a test.
-use Prim.Native.Nat.{ℕ, zero, suc, _+_, _≤_, _<_, zero-le}
+use Prim.Native.Nat.{ℕ, zero, suc, _+_, _-_, _≤_, _<_, zero-le}
 use native.Mathlib.Nat.{zero-add, suc-add, not-suc-le-zero, le-of-suc-le-suc}
+use native.Mathlib.Numerals.{add-one}
 use native.Mathlib.Omega.{arith}
 use mathlib.Core.Path.{_≡_, refl, sym, ap, _∙_}
 use mathlib.Core.List.{List, [], _∷_, _++_}
@@ -102,3 +103,17 @@ pub filter-firsts : (p : ℕ → Bool) (n a : ℕ) → firsts (filter p (from n 
 unfolding firsts filter from
 filter-firsts p zero a = refl
 filter-firsts p (suc n) a = case-of (p a) (λ t. rw (t, filter-firsts p n (suc a), keep-above p n (suc a) a (omega arith))) (λ f. rw (f, filter-firsts p n (suc a)))
+
+-- ---- the numbers from s to n
+
+pub left-one : (n s : ℕ) → s < n → from (n - s) s ≡ s ∷ from (n - (s + 1)) (s + 1)
+unfolding from
+left-one n s h =
+    let e : n - s ≡ suc (n - (s + 1)) = omega arith in
+    rw (e, add-one s)
+
+pub left-none : (n s : ℕ) → n ≤ s → from (n - s) s ≡ []
+unfolding from
+left-none n s h =
+    let e : n - s ≡ 0 = omega arith in
+    rw e

@@ -4,11 +4,11 @@ use native.Mathlib.Omega.{arith}
 use native.Mathlib.Decide.{ℕ-discrete}
 use native.Mathlib.Numerals.{add-one}
 use mathlib.Core.Path.{_≡_, sym, ap, _∙_}
-use mathlib.Core.List.{List, [], _∷_, map}
+use mathlib.Core.List.{List, [], _∷_, _++_, map}
 use mathlib.Core.Bool.{true}
 use mathlib.Core.Logic.{_⊎_, inl, inr, ⊎-elim}
 use lib.ListN.{length, getD, set, take, length-set, length-take, length-map, drop-of-length-le, List·getD-map}
-use lib.Seq.{getD-set-same, getD-set-other, getD-take, getD-drop, slice, slice-cons, length-slice, take-set-le, take-set-lt, drop-set-lt}
+use lib.Seq.{getD-set-same, getD-set-other, getD-take, getD-drop, slice, slice-cons, length-slice, take-set-le, take-set-lt, drop-set-lt, sets}
 use Rattle.lists.specs.Lists.{member}
 use Rattle.lists.proofs.Members.{at-member, getD-any}
 
@@ -68,3 +68,9 @@ slice-map h f t i l m q p k n =
     let s = slice f t l in
     let j : i - f < length (map h s) = omega (arith, length-map s h, length-slice f t l n) in
     sym (slice-at f t i m p k) ∙ ap (λ (r : List ℕ). getD r (i - f) 0) q ∙ getD-any (map h s) (i - f) 0 (h 0) j ∙ List·getD-map h s (i - f) 0 ∙ ap h (slice-at f t i l p k)
+
+-- ---- a run of stores in two parts
+
+pub sets-append : {A : Type 0} (l : List A) (n : ℕ) (a b : List A) → sets l n (a ++ b) ≡ sets (sets l n a) (n + length a) b
+sets-append l n [] b = ap (λ (k : ℕ). sets l k b) (omega arith)
+sets-append l n (x ∷ a) b = sets-append (set l n x) (suc n) a b ∙ ap (λ (k : ℕ). sets (sets (set l n x) (suc n) a) k b) (omega arith)

@@ -26,9 +26,9 @@ use Rattle.steps.specs.Found.{Found, bySteps}
 use Rattle.found.proofs.Found.{found}
 use Rattle.found.proofs.Fits.{fit-known}
 use Rattle.found.proofs.SameEnds.{SameEnds, same-ends}
-use Rattle.calls.specs.Call.{Lent, graphIn, checkCall}
-use Rattle.calls.specs.Laws.{Accepts}
-use Rattle.calls.proofs.Laws.{call-accepted}
+use Rattle.lent_graph.specs.Call.{Lent, graphIn, checkCall}
+use Rattle.lent_graph.specs.Accepts.{Accepts}
+use Rattle.lent_graph.proofs.Accepts.{call-accepted}
 use Rattle.marking.specs.declared.Marking.{Marking}
 use Rattle.marking.specs.declared.Marking.the-variants as marking
 use Rattle.marking.specs.Passes.{endsGraph, xorRows, Ready, InTable}

@@ -12,7 +12,7 @@ use Rattle.codes.specs.declared.Checked.the-variants as checked
 use Rattle.steps.specs.Marker.{Marked, mark}
 use Rattle.steps.specs.Call.{litOf, rowMarked}
 use Rattle.steps.specs.Found.{bySteps, Found}
-use Rattle.calls.specs.Call.{Lent, graphIn, checkCall}
+use Rattle.lent_graph.specs.Call.{Lent, graphIn, checkCall}
 use Rattle.marking.specs.declared.Marking.{Marking}
 use Rattle.marking.specs.declared.Marking.the-variants as marking
 use Rattle.marking.specs.Answer.{sheetOf, markedRow, markingOf}

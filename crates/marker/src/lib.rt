@@ -3,7 +3,7 @@ use codes::Checked;
 use marking::Marking;
 ghost use mathlib.Core.Path.{_≡_};
 ghost use lib.ListN.{length};
-ghost use Rattle.calls.specs.Call.{lentOf};
+ghost use Rattle.lent_graph.specs.Call.{lentOf};
 ghost use Rattle.marker.specs.Answer.{markerLong, Marks};
 
 // 2: the row, and the scratch for the edges met and the wrong detectors, are as long as the counts need.
@@ -45,7 +45,7 @@ pub fn mark(
     ensures { λ r. ⌜ Marks (lentOf detectors observables edges (now («edge_u» .entry)) (now («edge_v» .entry)) (now («edge_weight» .entry)) (now («edge_obs» .entry))) (now (shot .entry)) width (now (list .entry)) (now (row .entry)) (now (marks .entry)) (now (wrong .entry)) r (now (row .exit)) ⌝ }
 {
     let enough = long(detectors, observables, edges, row, marks, wrong);
-    let checked = calls::check_call(
+    let checked = lent_graph::check_call(
         detectors,
         observables,
         edges,

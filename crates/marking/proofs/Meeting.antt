@@ -13,7 +13,7 @@ use Rattle.bits.specs.Rows.{bit, setBit}
 use Rattle.steps.specs.Graph.{Graph, boundary, inner, outer}
 use Rattle.steps.specs.Marker.{fit}
 use Rattle.steps.specs.Call.{graphOf}
-use Rattle.calls.proofs.Laws.{entry}
+use Rattle.lent_graph.proofs.Accepts.{entry}
 use Rattle.found.proofs.Fits.{fit-known}
 use Rattle.marking.specs.Passes.{endsGraph, metAfter, flipEnds, wrongAfter, Unmet}
 use Rattle.marking.proofs.Flips.{length-met, bit-met, length-wrong}

@@ -3,7 +3,7 @@ use codes::Refusal;
 ghost use mathlib.Core.Path.{_≡_};
 ghost use mathlib.Core.Bool.{true};
 ghost use Prim.Native.Nat.{_*_, _/_, _<_, _≤_};
-ghost use lib.ListN.{length, replicate};
+ghost use lib.ListN.{length};
 ghost use Rattle.bits.specs.Rows.{setBits};
 ghost use Rattle.steps.specs.Graph.{boundary};
 ghost use Rattle.steps.specs.Marker.{fit, mark};
@@ -25,17 +25,6 @@ enum Bit {
     Nothing,
 }
 
-// Zero words.
-fn clear(row: &mut [u64])
-    ensures { λ _. ⌜ now (row .exit) ≡ replicate (length (now (row .entry))) 0 ⌝ }
-{
-    let mut i = 0;
-    while i < row.len() {
-        row[i] = 0;
-        i += 1;
-    }
-}
-
 // The words of a row of the same length.
 fn copy(from: &[u64], to: &mut [u64])
     requires { ⌜ length (now from) ≡ length (now to) ⌝ }
@@ -54,7 +43,7 @@ fn flip_ends(wrong: &mut [u64], u: u32, v: u32)
     ensures { λ _. ⌜ now (wrong .exit) ≡ flipEnds (now (wrong .entry)) u v ⌝ }
 {
     bits::flip(wrong, u as usize);
-    if v == lent::BOUNDARY {
+    if v == lent_graph::BOUNDARY {
         return;
     }
     bits::flip(wrong, v as usize);
@@ -121,7 +110,7 @@ pub fn judge(
     requires { ⌜ Ready detectors edges (now «edge_u») (now «edge_v») (now shot) (now marks) (now wrong) ⌝ }
     ensures { λ r. ⌜ r ≡ markingOf (mark (endsGraph detectors edges (now («edge_u» .entry)) (now («edge_v» .entry))) (litOf detectors (now (shot .entry))) (now (list .entry))) ⌝ }
 {
-    clear(marks);
+    tables::fill_u64(marks, 0);
     copy(shot, wrong);
     if !meet(edges, edge_u, edge_v, list, marks, wrong) {
         return Marking::Refused(Refusal::Edge);
@@ -138,7 +127,7 @@ pub fn write_row(edge_obs: &[u64], list: &[u32], row: &mut [u64])
     requires { ⌜ InTable (length (now row)) (now «edge_obs») (now list) ⌝ }
     ensures { λ _. ⌜ now (row .exit) ≡ xorRows (length (now (row .entry))) (now («edge_obs» .entry)) (now (list .entry)) ⌝ }
 {
-    clear(row);
+    tables::fill_u64(row, 0);
     let w = row.len();
     let mut left = list.len();
     while 0 < left {

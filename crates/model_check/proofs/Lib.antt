@@ -1,2 +1,4 @@
-pub mod Sums
+pub mod Bits
+pub mod Columns
 pub mod ReadModel
+pub mod Sums

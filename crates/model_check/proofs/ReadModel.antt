@@ -29,8 +29,8 @@ use Rattle.frames.specs.declared.State.{State}
 use Rattle.frames.specs.Input.{Given, Input, mechanismOf, modelRead, tablesRead}
 use Rattle.frames.specs.Counts.{countsOf}
 use Rattle.frames.proofs.FrameKinds.{Held, held-of}
-use Rattle.probabilities.specs.Bits.{probabilityOf, Alike, Bytes}
-use Rattle.probabilities.proofs.Laws.{laws}
+use Rattle.model_check.specs.Bits.{probabilityOf, Alike, Bytes}
+use Rattle.model_check.proofs.Bits.{laws}
 use Rattle.reader.specs.Columns.{Columns, columns, byteOf, columnsAt, Holds}
 use Rattle.reader.proofs.Stored.{Long, read-long}
 use Rattle.reader.proofs.Written.{written-at}

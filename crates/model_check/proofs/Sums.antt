@@ -8,7 +8,7 @@ use lib.ListN.{length, getD, take, drop}
 use lib.Seq.{getD-drop}
 use Rattle.dem.specs.Positions.{total}
 use Rattle.dem.proofs.Sums.{total-first, total-none, total-add}
-use Rattle.probabilities.specs.Bits.{Bytes}
+use Rattle.model_check.specs.Bits.{Bytes}
 
 rest-at : (l : List ℕ) (k : ℕ) → getD (drop 1 l) k 0 ≡ getD l (suc k) 0
 rest-at l k = getD-drop 1 l k 0 ∙ ap (λ (j : ℕ). getD l j 0) (one-add k)

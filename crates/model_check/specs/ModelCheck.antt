@@ -17,7 +17,7 @@ use Rattle.dem.specs.Positions.{tables}
 use Rattle.dem.specs.Check.{checkAll}
 use Rattle.frames.specs.declared.State.{State}
 use Rattle.frames.specs.Input.{Input, modelRead}
-use Rattle.probabilities.specs.Bits.{probabilityOf}
+use Rattle.model_check.specs.Bits.{probabilityOf}
 use Rattle.reader.specs.Columns.{Columns, columns, Holds}
 
 -- the tables of a model, with the column of probabilities ps

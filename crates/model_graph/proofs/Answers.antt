@@ -23,21 +23,21 @@ use Rattle.dem.specs.Tables.{Tables, modelOf, componentsIn, entriesIn, columnsH
 use Rattle.dem.specs.Positions.{tables}
 use Rattle.dem.specs.Check.{checkAll}
 use Rattle.dem.specs.Decompose.{Split, into, refused, decompose}
-use Rattle.dem.proofs.Accepted.{then-accepted, unless-accepted}
+use Rattle.codes.proofs.Checks.{then-accepted, unless-accepted}
 use Rattle.dem.proofs.Laws.{laws}
 use Rattle.suggested.proofs.Models.{lengths}
-use Rattle.decompose.specs.declared.Counts.{Counts}
-use Rattle.decomposed.specs.declared.Scratch.{Scratch}
-use Rattle.decomposed.specs.declared.Decomposed.{Decomposed}
-use Rattle.decomposed.specs.declared.Decomposed.the-variants as decomposed
-use Rattle.decomposed.specs.Call as call
-use Rattle.decomposed.specs.Call.{roomOf, scratchLong, long, checked, outcomeOf, outcome, tablesLeft, Decomposes}
-use Rattle.lent.specs.Lent.{tablesLong}
+use Rattle.split_model.specs.declared.Counts.{Counts}
+use Rattle.decompose.specs.declared.Scratch.{Scratch}
+use Rattle.decompose.specs.declared.Decomposed.{Decomposed}
+use Rattle.decompose.specs.declared.Decomposed.the-variants as decomposed
+use Rattle.decompose.specs.Call as call
+use Rattle.decompose.specs.Call.{roomOf, scratchLong, long, checked, outcomeOf, outcome, tablesLeft, Decomposes}
+use Rattle.lent_graph.specs.Lent.{tablesLong}
 use Rattle.graph.specs.declared.Compiled.{Compiled}
 use Rattle.graph.specs.declared.Compiled.the-variants as compiled
-use Rattle.graph.specs.Compile as edges
-use Rattle.graph.specs.Compile.{Edges, compile}
-use Rattle.graph.specs.Tables.{Slices, slices}
+use Rattle.edges.specs.Compile as edges
+use Rattle.edges.specs.Compile.{Edges, compile}
+use Rattle.edges.specs.Tables.{Slices, slices}
 use Rattle.graph.specs.Outcome as graph
 use Rattle.graph.specs.Outcome.{slicesLong, checkSlices, tableLeft, Compiles}
 use Rattle.frames.specs.declared.State.{State}

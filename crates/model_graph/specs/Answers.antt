@@ -6,10 +6,10 @@ use lib.ListN.{length}
 use Rattle.dem.specs.Model.{ErrorMechanism}
 use Rattle.dem.specs.Tables.{Tables, tablesWritten}
 use Rattle.dem.specs.Decompose.{into}
-use Rattle.decomposed.specs.declared.Decomposed.{Decomposed}
-use Rattle.decomposed.specs.Call as decomposed
+use Rattle.decompose.specs.declared.Decomposed.{Decomposed}
+use Rattle.decompose.specs.Call as decomposed
 use Rattle.graph.specs.declared.Compiled.{Compiled}
-use Rattle.graph.specs.Tables.{Slices}
+use Rattle.edges.specs.Tables.{Slices}
 use Rattle.graph.specs.Outcome.{Compiles}
 use Rattle.frames.specs.declared.State.{State}
 use Rattle.frames.specs.Input.{Input, modelRead}

@@ -10,10 +10,10 @@ use Rattle.dem.specs.Decompose.{Places, Split, decompose}
 use Rattle.dem.specs.Decompose as split
 use Rattle.dem.specs.Tables.{Tables, tablesWritten}
 use Rattle.dem.specs.Positions.{tables}
-use Rattle.decomposed.specs.declared.Scratch.{Scratch}
-use Rattle.decomposed.specs.Call.{outcomeOf, outcome}
-use Rattle.graph.specs.Compile.{Edges, refused, compile}
-use Rattle.graph.specs.Tables.{Slices, slices}
+use Rattle.decompose.specs.declared.Scratch.{Scratch}
+use Rattle.decompose.specs.Call.{outcomeOf, outcome}
+use Rattle.edges.specs.Compile.{Edges, refused, compile}
+use Rattle.edges.specs.Tables.{Slices, slices}
 use Rattle.graph.specs.Outcome as graph
 use Rattle.frames.specs.declared.State.{State}
 use Rattle.reader.specs.Columns.{Columns}

@@ -1,14 +1,13 @@
 // Document 01, "Frames": at 04 the model that was read is checked, decomposed and compiled.
 use codes::Checked;
-use codes::Refusal;
-use decomposed::Decomposed;
+use decompose::Decomposed;
 use frames::State;
 use graph::Compiled;
 ghost use mathlib.Core.Path.{_≡_};
 ghost use mathlib.Core.List.{[]};
 ghost use lib.ListN.{length, replicate};
 ghost use Rattle.dem.specs.Positions.{tables};
-ghost use Rattle.graph.specs.Tables.{slices};
+ghost use Rattle.edges.specs.Tables.{slices};
 ghost use Rattle.graph.specs.Outcome.{outcome, Compiles};
 ghost use Rattle.model_graph.specs.Graph.{zeros, heldTables};
 ghost use Rattle.model_graph.specs.Answers.{DecomposedBy, GraphBy};

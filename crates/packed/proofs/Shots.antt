@@ -1,5 +1,5 @@
 -- The checks of packed shots, one shot after another.
-use Prim.Native.Nat.{ℕ, suc, _+_, _-_, _*_, _/_, _%_, _^_, _≤_, _<_}
+use Prim.Native.Nat.{ℕ, _+_, _-_, _*_, _/_, _%_, _^_, _≤_, _<_}
 use native.Mathlib.Nat.{mul-zero, mul-le-mul-right, suc-mul, div-lt-iff-lt-mul, div-add-mod', pos-of-ne-zero}
 use native.Mathlib.Numerals.{add-one, add-one-le}
 use native.Mathlib.Omega.{arith}
@@ -11,6 +11,7 @@ use lib.Seq.{length-take-le, getD-take, getD-drop}
 use borrow.Author.Tests.{eq-eqb, ne-eqb, eqb-true, le-leb, lt-leb}
 use Rattle.lists.specs.Lists.{from, below}
 use Rattle.lists.proofs.Truth.{case-of}
+use Rattle.lists.proofs.Ranges.{left-one}
 use Rattle.bits.specs.Rows.{words, isClear}
 use Rattle.bits.proofs.Rows.{clear-whole, clear-last}
 use Rattle.codes.specs.declared.Refusal.the-variants.{Length, Padding}
@@ -77,13 +78,6 @@ module _ (rows : List ℕ) (width : ℕ) where
   padding-end shots s h =
       let e : shots - s ≡ 0 = omega arith in
       rw e
-
--- the shots from shot s on
-left-one : (shots s : ℕ) → s < shots → from (shots - s) s ≡ s ∷ from (shots - (s + 1)) (s + 1)
-unfolding from
-left-one shots s h =
-    let e : shots - s ≡ suc (shots - (s + 1)) = omega arith in
-    rw (e, add-one s)
 
 -- a turn: m words a row, of a width that is no multiple of 64, and shot s
 module _ (rows : List ℕ) (shots width m s : ℕ) (long : length rows ≡ shots * words width) (e : m ≡ words width) (t : width % 64 ≡ 0 → ⊥) (h : s < shots) where

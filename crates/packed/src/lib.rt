@@ -2,11 +2,11 @@
 use codes::Checked;
 use codes::Refusal;
 ghost use mathlib.Core.Path.{_≡_};
-ghost use Prim.Native.Nat.{_+_, _*_, _≤_};
+ghost use Prim.Native.Nat.{_+_, _*_};
 ghost use lib.ListN.{length};
 ghost use Rattle.lists.specs.Lists.{below};
 ghost use Rattle.bits.specs.Rows.{words};
-ghost use Rattle.packed.specs.Packed.{rowAt, checkLength, checkPadding, packedOf};
+ghost use Rattle.packed.specs.Packed.{checkLength, checkPadding, packedOf};
 
 // What a batch is taken for.
 pub enum Packed {
@@ -77,14 +77,4 @@ pub fn try_from_shot_major(data: &[u64], num_shots: usize, num_measurements: usi
     Packed::Rows {
         m_words: bits::words(num_measurements),
     }
-}
-
-// The row of a shot, a part of the slice.
-pub fn row(data: &[u64], m_words: usize, shot: usize) -> &[u64]
-    requires { ⌜ (shot + 1) * «m_words» ≤ length (now «data») ⌝ }
-    ensures { λ r. ⌜ now r ≡ rowAt «m_words» (now («data» .entry)) shot ⌝ }
-{
-    let from = shot * m_words;
-    let end = from + m_words;
-    &data[from..end]
 }

@@ -27,8 +27,8 @@ use Rattle.batch.proofs.Calls.{accepts, rows-long}
 use Rattle.failures.specs.declared.ErrorRate.{ErrorRate}
 use Rattle.failures.specs.declared.ErrorRate.the-variants as answer
 use Rattle.failures.specs.Failures.{differs, failuresIn, rateOf, sheetOf, callRow, answerOf, Comparable}
-use Rattle.rate_checks.specs.Checks.{checkRate}
-use Rattle.rate_checks.proofs.Laws.{Passed, rate-accepted}
+use Rattle.rate.specs.Checks.{checkRate}
+use Rattle.rate.proofs.Accepts.{Passed, rate-accepted}
 use Rattle.rate.specs.Rate.{Compared, graphOfCall, checks, shape, failed, failures, outcome, Rates}
 use Rattle.rate.proofs.Clear.{left-clear}
 

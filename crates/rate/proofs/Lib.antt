@@ -1,2 +1,4 @@
-pub mod Clear
+pub mod Accepts
 pub mod Calls
+pub mod Checks
+pub mod Clear

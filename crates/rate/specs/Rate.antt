@@ -10,13 +10,13 @@ use Rattle.codes.specs.declared.Checked.{Checked}
 use Rattle.codes.specs.Order.{andThen}
 use Rattle.packed.specs.Packed.{rowAt}
 use Rattle.steps.specs.Graph.{Graph}
-use Rattle.calls.specs.Call.{graphIn}
+use Rattle.lent_graph.specs.Call.{graphIn}
 use Rattle.batch_rows.specs.Row.{rowFor}
 use Rattle.batch_rows.specs.Rows.{checkShotsOf, rowsOf}
 use Rattle.batch.specs.Batch.{Handed, ownLong, outAfter}
 use Rattle.failures.specs.declared.ErrorRate.{ErrorRate}
 use Rattle.failures.specs.Failures.{differs, rateOf, shapeOf, sheetOf, callRow, answerOf}
-use Rattle.rate_checks.specs.Checks.{checkRate}
+use Rattle.rate.specs.Checks.{checkRate}
 
 -- what the rate is handed: a batch, and the true observables with their own number of shots and width
 pub record Compared : Type 0 where

@@ -1,12 +1,94 @@
-// The logical error rate of a batch: document 01, "Rate". The call checks all that it is handed, puts its scratch to rest, decodes its shots and compares their rows with the true ones.
+// The logical error rate of a batch: document 01, "Rate" and "Codes on the marking sheet".
 use codes::Checked;
+use codes::Refusal;
 use failures::ErrorRate;
+use packed::Packed;
 use scratch::Lengths;
+ghost use mathlib.Core.Path.{_≡_};
+ghost use Rattle.lent_graph.specs.Call.{lentOf};
+ghost use Rattle.rate.specs.Checks.{checkBoth, checkRate};
 ghost use lib.ListN.{length};
 ghost use Rattle.scratch.specs.Scratch.{lengthsOf};
-ghost use Rattle.calls.specs.Call.{lentOf};
 ghost use Rattle.batch.specs.Batch.{handed};
 ghost use Rattle.rate.specs.Rate.{compared, Rates};
+
+// 8, 9 of the shots, 8, 9 of the true observables, then 10.
+fn check_both(
+    detectors: usize,
+    rows: &[u64],
+    shots: usize,
+    width: usize,
+    truth: &[u64],
+    true_shots: usize,
+    true_width: usize,
+) -> Checked
+    ensures { λ r. ⌜ r ≡ checkBoth detectors (now (rows .entry)) shots width (now (truth .entry)) «true_shots» «true_width» ⌝ }
+{
+    let packed = packed::try_from_shot_major(rows, shots, width);
+    if let Packed::Refused(r) = packed {
+        return Checked::Refused(r);
+    }
+    let actual = packed::try_from_shot_major(truth, true_shots, true_width);
+    if let Packed::Refused(r) = actual {
+        return Checked::Refused(r);
+    }
+    if width != detectors {
+        return Checked::Refused(Refusal::Width);
+    }
+    Checked::Accepted
+}
+
+// 1, 2 (the tables, and whether the call's own slices are long enough), the graph, then both packings and the width. Long for its parameters, one a line.
+pub fn check_rate(
+    detectors: usize,
+    observables: usize,
+    edges: usize,
+    edge_u: &[u32],
+    edge_v: &[u32],
+    edge_weight: &[f64],
+    edge_obs: &[u64],
+    long: bool,
+    rows: &[u64],
+    shots: usize,
+    width: usize,
+    truth: &[u64],
+    true_shots: usize,
+    true_width: usize,
+) -> Checked
+    ensures { λ r. ⌜ r ≡ checkRate (lentOf detectors observables edges (now («edge_u» .entry)) (now («edge_v» .entry)) (now («edge_weight» .entry)) (now («edge_obs» .entry))) long (now (rows .entry)) shots width (now (truth .entry)) «true_shots» «true_width» ⌝ }
+{
+    let counts = codes::check_counts(detectors, observables, edges);
+    if let Checked::Refused(r) = counts {
+        return Checked::Refused(r);
+    }
+    let few = codes::check_shots(shots);
+    if let Checked::Refused(r) = few {
+        return Checked::Refused(r);
+    }
+    let true_few = codes::check_shots(true_shots);
+    if let Checked::Refused(r) = true_few {
+        return Checked::Refused(r);
+    }
+    if !lent_graph::tables_long(observables, edges, edge_u, edge_v, edge_weight, edge_obs) {
+        return Checked::Refused(Refusal::Short);
+    }
+    if !long {
+        return Checked::Refused(Refusal::Short);
+    }
+    let graph = lent_graph::check_edges(
+        detectors,
+        observables,
+        edges,
+        edge_u,
+        edge_v,
+        edge_weight,
+        edge_obs,
+    );
+    if let Checked::Refused(r) = graph {
+        return Checked::Refused(r);
+    }
+    check_both(detectors, rows, shots, width, truth, true_shots, true_width)
+}
 
 // The graph is checked and its edges at each detector worked out once. Long for its parameters, one a line.
 pub fn logical_error_rate(
@@ -46,7 +128,7 @@ pub fn logical_error_rate(
         growth: growth.len(),
         sat: sat.len(),
     };
-    let long = tabled::own_long(
+    let long = own_slices::own_long(
         detectors,
         observables,
         edges,
@@ -55,7 +137,7 @@ pub fn logical_error_rate(
         list.len(),
         have,
     );
-    let checked = rate_checks::check_rate(
+    let checked = check_rate(
         detectors,
         observables,
         edges,
@@ -75,7 +157,7 @@ pub fn logical_error_rate(
         return ErrorRate::Refused(r);
     }
     adjacency::tabulate(detectors, edges, edge_u, edge_v, adj_offsets, adj);
-    let decoded = batch_rows::decode_parts(
+    let decoded = batch_rows::reset_and_decode_rows(
         detectors,
         observables,
         edges,

@@ -8,7 +8,7 @@ use Rattle.steps.specs.Graph.{Graph, boundary}
 use Rattle.steps.specs.Cases.{quarter-weight}
 use Rattle.steps.specs.Found.{Programs, Blank, Demand3}
 use Rattle.scratch.specs.Scratch.{lengthsFor}
-use Rattle.calls.specs.Call.{lentOf}
+use Rattle.lent_graph.specs.Call.{lentOf}
 use Rattle.decoder.specs.declared.Answer.{Answer}
 use Rattle.decoder.specs.declared.Answer.the-variants as answer
 use Rattle.decoder.specs.Answer.{Handed, handed, graphOfCall, checks, Decodes}

@@ -7,7 +7,8 @@ use mathlib.Core.List.{List, [], _∷_, _++_}
 use lib.ListN.{length, drop, set, length-append}
 use lib.Seq.{sets, sets-eq}
 use Rattle.hex.specs.Hex.{textOf}
-use Rattle.hex.proofs.Texts.{text-append, text-long, sets-append}
+use Rattle.hex.proofs.Texts.{text-append, text-long}
+use Rattle.lists.proofs.Slices.{sets-append}
 use Rattle.replies.specs.Replies.{lineOf}
 
 -- more bytes behind those that stand

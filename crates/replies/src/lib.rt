@@ -1,11 +1,16 @@
-// Document 01, "Frames": the lines that are written. Each goes to the front of a slice that is long enough, and the answer is its length.
+// Document 01, "Frames" and "Rate": the lines that are written. Each goes to the front of a slice that is long enough, and the answer is its length.
+use codes::Checked;
+use codes::Refusal;
 ghost use mathlib.Core.Path.{_≡_};
 ghost use mathlib.Core.List.{_++_};
 ghost use Prim.Native.Nat.{_+_, _*_, _≤_};
 ghost use lib.ListN.{length, drop};
 ghost use Rattle.codes.specs.Codes.{codeOf};
 ghost use Rattle.replies.specs.Replies.{lineOf, rowReply, listReply, rateReply, refusalReply};
-use codes::Refusal;
+ghost use lib.Ieee.{binary64, toBits};
+ghost use Rattle.dem.specs.Tables.{written};
+ghost use Rattle.failures.specs.Failures.{rateOf};
+ghost use Rattle.replies.specs.Last.{refusalText, rateText, lastText};
 
 // 85: the row of a shot.
 pub fn write_row(row: &[u64], out: &mut [u8]) -> usize
@@ -35,7 +40,7 @@ pub fn write_list(edges: &[u32], out: &mut [u8]) -> usize
 }
 
 // 8f: the shots, the failures and the bits of the rate.
-pub fn write_rate(shots: u64, failures: u64, rate: u64, out: &mut [u8]) -> usize
+fn rate_line(shots: u64, failures: u64, rate: u64, out: &mut [u8]) -> usize
     requires { ⌜ 35 ≤ length (now out) ⌝ }
     ensures { λ r. ⌜ (r ≡ length (lineOf (rateReply shots failures rate)))
         × (now (out .exit) ≡ lineOf (rateReply shots failures rate) ++ drop (length (lineOf (rateReply shots failures rate))) (now (out .entry))) ⌝ }
@@ -49,7 +54,7 @@ pub fn write_rate(shots: u64, failures: u64, rate: u64, out: &mut [u8]) -> usize
 }
 
 // ff: the code of a refusal.
-pub fn write_refusal(r: Refusal, out: &mut [u8]) -> usize
+fn refusal_line(r: Refusal, out: &mut [u8]) -> usize
     requires { ⌜ 5 ≤ length (now out) ⌝ }
     ensures { λ n. ⌜ (n ≡ length (lineOf (refusalReply (codeOf r))))
         × (now (out .exit) ≡ lineOf (refusalReply (codeOf r)) ++ drop (length (lineOf (refusalReply (codeOf r)))) (now (out .entry))) ⌝ }
@@ -58,4 +63,52 @@ pub fn write_refusal(r: Refusal, out: &mut [u8]) -> usize
     hex::write_byte(codes::code(r), out, 2);
     out[4] = b'\n';
     5
+}
+
+// The bits of the rate: both counts are below 2^32, so neither loses a digit, and the quotient is no NaN.
+fn rate_bits(observables: usize, failures: u32, shots: u32) -> u64
+    requires { ⌜ failures ≤ shots ⌝ }
+    ensures { λ r. ⌜ r ≡ toBits binary64 (rateOf observables failures shots) ⌝ }
+{
+    if shots == 0 {
+        return 0;
+    }
+    if observables == 0 {
+        return 0;
+    }
+    f64::to_bits((failures as f64) / (shots as f64))
+}
+
+// ff and the code.
+pub fn write_refusal(r: Refusal, out: &mut [u8]) -> usize
+    requires { ⌜ 5 ≤ length (now out) ⌝ }
+    ensures { λ n. ⌜ (n ≡ length (refusalText r)) × (now (out .exit) ≡ written (refusalText r) (now (out .entry))) ⌝ }
+{
+    refusal_line(r, out)
+}
+
+// 8f.
+fn write_rate(observables: usize, failures: u32, shots: u32, out: &mut [u8]) -> usize
+    requires { ⌜ (failures ≤ shots) × (35 ≤ length (now out)) ⌝ }
+    ensures { λ n. ⌜ (n ≡ length (rateText observables failures shots)) × (now (out .exit) ≡ written (rateText observables failures shots) (now (out .entry))) ⌝ }
+{
+    let bits = rate_bits(observables, failures, shots);
+    rate_line(shots as u64, failures as u64, bits, out)
+}
+
+// 8f, or the refusal of an input that ends too early.
+pub fn write_last(
+    end: Checked,
+    observables: usize,
+    failures: u32,
+    shots: u32,
+    out: &mut [u8],
+) -> usize
+    requires { ⌜ (failures ≤ shots) × (35 ≤ length (now out)) ⌝ }
+    ensures { λ n. ⌜ (n ≡ length (lastText end observables failures shots)) × (now (out .exit) ≡ written (lastText end observables failures shots) (now (out .entry))) ⌝ }
+{
+    match end {
+        Checked::Refused(r) => write_refusal(r, out),
+        Checked::Accepted => write_rate(observables, failures, shots, out),
+    }
 }

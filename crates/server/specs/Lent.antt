@@ -6,7 +6,7 @@ use lib.ListN.{length}
 use lib.Ieee.{Float}
 use Rattle.scratch.specs.declared.Lengths.{Lengths}
 use Rattle.scratch.specs.Scratch.{lengthsOf}
-use Rattle.calls.specs.Call.{Lent, lentOf}
+use Rattle.lent_graph.specs.Call.{Lent, lentOf}
 use Rattle.server.specs.declared.Size.{Size}
 
 -- a graph by its counts and its tables

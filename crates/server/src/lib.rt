@@ -1,7 +1,7 @@
 // The C exports, all of them. Each takes numbers and slices, checks what it is handed and answers with a struct by value.
 use codes::Checked;
 use decoder::Answer;
-use decomposed::Decomposed;
+use decompose::Decomposed;
 use failures::ErrorRate;
 use graph::Compiled;
 use marking::Marking;
@@ -13,9 +13,9 @@ ghost use Rattle.batch.specs.Batch as batched;
 ghost use Rattle.rate.specs.Rate.{compared, Rates};
 ghost use Rattle.marker.specs.Answer.{Marks};
 ghost use Rattle.dem.specs.Positions.{tables};
-ghost use Rattle.decomposed.specs.Call as decomposition;
+ghost use Rattle.decompose.specs.Call as decomposition;
 ghost use Rattle.graphlike.specs.Lent.{scratchOf};
-ghost use Rattle.graph.specs.Tables.{slices};
+ghost use Rattle.edges.specs.Tables.{slices};
 ghost use Rattle.graph.specs.Outcome.{outcome, Compiles};
 ghost use Prim.Native.Nat.{_≤_};
 ghost use Rattle.codes.specs.Limits.{maxMechanisms};

@@ -5,7 +5,7 @@ use mathlib.Core.Path.{_≡_, refl, sym, ap, _∙_, subst}
 use mathlib.Core.List.{List, []}
 use lib.Ieee.{Float}
 use borrow.Author.Tests.{eq-eqb, ne-eqb}
-use Rattle.graph.specs.Tables.{Slices, slices}
+use Rattle.edges.specs.Tables.{Slices, slices}
 use Rattle.frames.specs.declared.State.{State}
 use Rattle.frames.specs.Input.{Input}
 use Rattle.frames.specs.Counts.{countsOf}

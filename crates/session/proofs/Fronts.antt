@@ -10,9 +10,9 @@ use lib.Seq.{take-append-seam, drop-append-seam}
 use borrow.Rule.Slice.PartMut.{midOf}
 use Rattle.bits.specs.Rows.{words}
 use Rattle.dem.specs.Tables.{written}
-use Rattle.graph.specs.Compile.{Edge, obsRow}
-use Rattle.graph.specs.Tables.{Slices, flat}
-use Rattle.graph.proofs.Slices.{row-long}
+use Rattle.edges.specs.Compile.{Edge, obsRow}
+use Rattle.edges.specs.Tables.{Slices, flat}
+use Rattle.edges.proofs.Slices.{row-long}
 use Rattle.frames.specs.Input.{start}
 use Rattle.frames.specs.Counts.{countsOf}
 use Rattle.frames.specs.declared.State.{State}

@@ -8,18 +8,18 @@ use lib.ListN.{length}
 use Rattle.codes.specs.declared.Refusal.{Refusal}
 use Rattle.hex.specs.Hex.{bytesOf}
 use Rattle.dem.specs.Tables.{written}
-use Rattle.graph.specs.Tables.{Slices}
+use Rattle.edges.specs.Tables.{Slices}
 use Rattle.frames.specs.declared.State.{State}
 use Rattle.frames.specs.declared.Line.{Line}
 use Rattle.frames.specs.declared.Line.the-variants as line
 use Rattle.frames.specs.Frames.{kindOf}
 use Rattle.frames.specs.Input.{Input, Read, next, refused, readLine}
 use Rattle.frames.specs.Counts.{countsOf, answerOf}
-use Rattle.line_laws.proofs.Words.{row-read, shot-read}
+use Rattle.frames.proofs.Words.{row-read, shot-read}
 use Rattle.reader.specs.Columns.{Columns, columnsAt, longEnough, roomy, Holds, readBy, LineRead, columnsLeft}
 use Rattle.reader.proofs.Laws.{laws}
 use Rattle.model_graph.specs.Answers.{Sized, Wide}
-use Rattle.last_line.specs.Last.{refusalText}
+use Rattle.replies.specs.Last.{refusalText}
 use Rattle.session.specs.declared.Numbers.{Numbers}
 use Rattle.session.specs.declared.Told.{Told}
 use Rattle.session.specs.declared.Told.the-variants as told

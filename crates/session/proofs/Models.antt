@@ -10,8 +10,8 @@ use Rattle.bits.specs.Rows.{words}
 use Rattle.dem.specs.Tables.{written}
 use Rattle.graph.specs.declared.Compiled.{Compiled}
 use Rattle.graph.specs.declared.Compiled.the-variants as compiled
-use Rattle.graph.specs.Compile.{Edge, Edges, into, refused, obsRow, graphBy}
-use Rattle.graph.specs.Tables.{Slices, slices, flat}
+use Rattle.edges.specs.Compile.{Edge, Edges, into, refused, obsRow, graphBy}
+use Rattle.edges.specs.Tables.{Slices, slices, flat}
 use Rattle.graph.specs.Outcome.{answerOf, tableLeft, Compiles}
 use Rattle.frames.specs.declared.State.{State}
 use Rattle.frames.specs.Input.{Input, modelRead}
@@ -20,7 +20,7 @@ use Rattle.frames.proofs.FrameKinds.{held-of}
 use Rattle.reader.specs.Columns.{Columns, columns, Holds}
 use Rattle.model_graph.specs.Graph.{graphRead}
 use Rattle.model_graph.specs.Answers.{GraphRead, GraphBy}
-use Rattle.last_line.specs.Last.{refusalText}
+use Rattle.replies.specs.Last.{refusalText}
 use Rattle.session.specs.declared.Numbers.{Numbers}
 use Rattle.session.specs.declared.Told.{Told}
 use Rattle.session.specs.declared.Told.the-variants as told

@@ -13,7 +13,7 @@ use Rattle.codes.specs.declared.Refusal.{Refusal}
 use Rattle.codes.specs.declared.Refusal.the-variants.{Limit}
 use Rattle.bits.specs.Rows.{words}
 use Rattle.dem.specs.Tables.{written}
-use Rattle.graph.specs.Tables.{Slices, slices, flat}
+use Rattle.edges.specs.Tables.{Slices, slices, flat}
 use Rattle.frames.specs.declared.State.{State}
 use Rattle.frames.specs.Input.{Input}
 use Rattle.frames.specs.Counts.{countsOf}
@@ -24,7 +24,7 @@ use Rattle.shot_reply.specs.declared.Reply.{Reply}
 use Rattle.shot_reply.specs.declared.Reply.the-variants as reply
 use Rattle.shot_reply.specs.Outcome.{Outcome, told, refused, shotOutcome}
 use Rattle.shot_reply.specs.Replied.{Replied, replyOf, textLeft}
-use Rattle.last_line.specs.Last.{refusalText}
+use Rattle.replies.specs.Last.{refusalText}
 use Rattle.session.specs.declared.Numbers.{Numbers}
 use Rattle.session.specs.declared.Told.{Told}
 use Rattle.session.specs.declared.Told.the-variants as tolds

@@ -10,18 +10,18 @@ use lib.Ieee.{fin}
 use Rattle.hex.specs.Hex.{bytesOf}
 use Rattle.dem.specs.Tables.{written}
 use Rattle.steps.specs.Graph.{Graph}
-use Rattle.graph.specs.Compile.{Edges, graphBy}
-use Rattle.graph.specs.Tables.{Slices, slices, flat}
+use Rattle.edges.specs.Compile.{Edges, graphBy}
+use Rattle.edges.specs.Tables.{Slices, slices, flat}
 use Rattle.graph.specs.Outcome.{tableLeft}
 use Rattle.frames.specs.Frames.{kindOf}
 use Rattle.frames.specs.declared.State.{State}
 use Rattle.frames.specs.Input.{Input, Read, next, refused, over, modelRead, readLine}
 use Rattle.frames.specs.Counts.{countsOf}
-use Rattle.line_laws.specs.Laws.{RowRead, ShotRead}
+use Rattle.frames.specs.LineLaws.{RowRead, ShotRead}
 use Rattle.reader.specs.Columns.{Columns, columns, columnsAt, roomy}
 use Rattle.model_graph.specs.Graph.{graphRead}
 use Rattle.model_graph.specs.Answers.{Sized, Wide}
-use Rattle.last_line.specs.Last.{refusalText}
+use Rattle.replies.specs.Last.{refusalText}
 use Rattle.session.specs.declared.Numbers.{Numbers}
 use Rattle.session.specs.declared.Told.{Told}
 use Rattle.session.specs.declared.Told.the-variants as told

@@ -1,7 +1,7 @@
 -- The tables of a session, as its lines leave them.
 use Prim.Native.Nat.{ℕ}
 use mathlib.Core.List.{List, [], _∷_}
-use Rattle.graph.specs.Tables.{Slices}
+use Rattle.edges.specs.Tables.{Slices}
 use Rattle.reader.specs.Columns.{Columns}
 use Rattle.session.specs.Output.{Session, Answer, goes, ends, answerLine}
 use Rattle.session.specs.Kept.{columnsAfter, slicesAfter}

@@ -8,15 +8,15 @@ use Rattle.codes.specs.declared.Refusal.{Refusal}
 use Rattle.codes.specs.declared.Refusal.the-variants.{Limit}
 use Rattle.hex.specs.Hex.{bytesOf}
 use Rattle.steps.specs.Graph.{Graph}
-use Rattle.graph.specs.Compile.{Edges, into, graphBy}
-use Rattle.graph.specs.Compile as edges
-use Rattle.graph.specs.Tables.{flat}
+use Rattle.edges.specs.Compile.{Edges, into, graphBy}
+use Rattle.edges.specs.Compile as edges
+use Rattle.edges.specs.Tables.{flat}
 use Rattle.frames.specs.Frames.{kindOf}
 use Rattle.frames.specs.Input.{Input, Read, next, refused, start, modelRead, readLine, atEnd, linesOf}
 use Rattle.model_graph.specs.Graph.{graphRead}
 use Rattle.shot_reply.specs.Outcome.{Outcome, told, shotOutcome}
 use Rattle.shot_reply.specs.Outcome as outcome
-use Rattle.last_line.specs.Last.{refusalText, lastText}
+use Rattle.replies.specs.Last.{refusalText, lastText}
 
 -- ---- a session
 

@@ -11,11 +11,11 @@ ghost use lib.ListN.{length};
 ghost use Rattle.bits.specs.Rows.{words};
 ghost use Rattle.hex.specs.Hex.{bytesOf};
 ghost use Rattle.dem.specs.Tables.{written};
-ghost use Rattle.graph.specs.Tables.{slices};
+ghost use Rattle.edges.specs.Tables.{slices};
 ghost use Rattle.frames.specs.Frames.{kindOf};
 ghost use Rattle.frames.specs.Input.{atEnd};
 ghost use Rattle.reader.specs.Columns.{columns};
-ghost use Rattle.last_line.specs.Last.{refusalText, lastText};
+ghost use Rattle.replies.specs.Last.{refusalText, lastText};
 ghost use Rattle.session.specs.declared.Told.the-variants as told;
 ghost use Rattle.session.specs.Output.{begin, one, longestReply};
 ghost use Rattle.session.specs.Kept.{numbersOf, Kept, ReadSome, AnswersKind, ModelBy, ModelSome, ShotBy, ShotSome, Answers};
@@ -62,7 +62,7 @@ fn refuse(r: Refusal, out: &mut [u8]) -> Told
     requires { ⌜ 5 ≤ length (now out) ⌝ }
     ensures { λ x. ⌜ (x ≡ told.Ended (length (refusalText r))) × (now (out .exit) ≡ written (refusalText r) (now (out .entry))) ⌝ }
 {
-    let written = last_line::write_refusal(r, out);
+    let written = replies::write_refusal(r, out);
     Told::Ended { written }
 }
 
@@ -336,5 +336,5 @@ pub fn write_end(n: Numbers, out: &mut [u8]) -> usize
 {
     let state = n.state;
     let end = frames::at_end(state);
-    last_line::write_last(end, state.observables, n.failures, n.shots, out)
+    replies::write_last(end, state.observables, n.failures, n.shots, out)
 }

@@ -15,7 +15,7 @@ use Rattle.packed.specs.Packed.{checkPacked}
 use Rattle.steps.specs.Graph.{Graph}
 use Rattle.steps.specs.Shot.{Decoded, impossible, corrected, rowAfter}
 use Rattle.scratch.specs.Scratch.{lengthsOf}
-use Rattle.calls.specs.Call.{lentOf}
+use Rattle.lent_graph.specs.Call.{lentOf}
 use Rattle.replies.specs.Replies.{lineOf, rowReply, listReply}
 use Rattle.decoder.specs.Answer.{Handed, handed, graphOfCall, checks, decoded}
 

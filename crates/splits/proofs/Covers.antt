@@ -19,9 +19,9 @@ use Rattle.cover.specs.declared.Cover.the-variants.{Members, Nothing}
 use Rattle.cover.specs.Kept.{symptomAt, keptIn}
 use Rattle.cover.specs.Search.{Given, Answered}
 use Rattle.cover.proofs.Laws.{laws}
-use Rattle.suggested.specs.declared.Span.{Span}
-use Rattle.suggested.specs.Last.{symptomIn}
-use Rattle.suggested.specs.Probability.{raisedAll}
+use Rattle.last_equal.specs.declared.Span.{Span}
+use Rattle.last_equal.specs.Last.{symptomIn}
+use Rattle.probability.specs.Probability.{raisedAll}
 use Rattle.splits.specs.Ready.{Coverable, Kept, Covered}
 
 pub given : (s : Span) (n : ℕ) (starts counts others es first next numbers masks words0 words1 earlier : List ℕ) (ps : List Float) (ds os chosen : List ℕ)

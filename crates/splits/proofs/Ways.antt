@@ -23,15 +23,15 @@ use Rattle.dem.specs.Decompose.{Places, Split, into, refused, addAt, addAll, ad
 use Rattle.dem.proofs.Checks.{lists-parts}
 use Rattle.cover.specs.Kept.{nowhere, lowest, startsWith, detectorsAt, keptIn, Detectors, Observables, Chains}
 use Rattle.cover.specs.Kept as kept
-use Rattle.copies.proofs.Kept.{whole}
-use Rattle.suggested.specs.declared.Span.{Span}
+use Rattle.kept.proofs.Kept.{whole}
+use Rattle.last_equal.specs.declared.Span.{Span}
 use Rattle.suggested.specs.declared.Size.{Size}
 use Rattle.suggested.specs.declared.Added.{Added}
 use Rattle.suggested.specs.declared.Added.the-variants.{Now, Full}
-use Rattle.suggested.specs.Probability.{raisedAt, raisedAll}
-use Rattle.suggested.specs.Last.{symptomIn}
+use Rattle.probability.specs.Probability.{raisedAt, raisedAll}
+use Rattle.last_equal.specs.Last.{symptomIn}
 use Rattle.suggested.specs.Held.{placesOf, sizeOf, Holds, Held, Outcome, Roomy, componentsFrom, Suggested}
-use Rattle.suggested.proofs.Chain.{fewer}
+use Rattle.last_equal.proofs.Chain.{fewer}
 use Rattle.suggested.proofs.Models.{raised-length}
 use Rattle.suggested.proofs.Adding.{holds-raised}
 use Rattle.splits.specs.declared.Step.the-variants.{Grown, Refused}

@@ -17,9 +17,9 @@ use Rattle.dem.specs.Cover.{none-such}
 use Rattle.dem.specs.Decompose.{Split, into, refused}
 use Rattle.cover.specs.Kept.{detectorsAt, Detectors, Observables, Chains}
 use Rattle.suggested.specs.declared.Size.{Size}
-use Rattle.suggested.specs.declared.Span.{Span}
-use Rattle.suggested.specs.Probability.{raisedAll}
-use Rattle.suggested.specs.Last.{symptomIn}
+use Rattle.last_equal.specs.declared.Span.{Span}
+use Rattle.probability.specs.Probability.{raisedAll}
+use Rattle.last_equal.specs.Last.{symptomIn}
 use Rattle.suggested.specs.Held.{sizeOf, Holds, Roomy}
 use Rattle.splits.specs.declared.Step.{Step}
 use Rattle.splits.specs.declared.Step.the-variants.{Grown, Refused}

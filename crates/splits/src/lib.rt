@@ -1,7 +1,7 @@
 // Document 01, "Decomposed model": each larger mechanism, in order, goes one of two ways.
 ghost use mathlib.Core.Path.{_≡_};
 ghost use mathlib.Core.List.{List};
-ghost use Prim.Native.Nat.{ℕ, _+_, _<_, _≤_};
+ghost use Prim.Native.Nat.{_+_, _<_};
 ghost use lib.ListN.{length};
 ghost use Rattle.dem.specs.Model.{Symptom, ErrorMechanism};
 ghost use Rattle.dem.specs.Tables.{Tables};
@@ -9,16 +9,16 @@ ghost use Rattle.dem.specs.Positions.{mechanismAt};
 ghost use Rattle.dem.specs.Cover.{firstCover};
 ghost use Rattle.dem.specs.Decompose.{splitOne};
 ghost use Rattle.cover.specs.Kept.{keptIn};
-ghost use Rattle.suggested.specs.Last.{symptomIn};
+ghost use Rattle.last_equal.specs.Last.{symptomIn};
 ghost use Rattle.suggested.specs.Held.{placesOf, Holds};
 ghost use Rattle.splits.specs.Ready.{countsSuggest, Coverable, Kept, Covered, Large, Ready, Front, Splitting, After};
 use codes::Refusal;
 use cover::Cover;
 use dem::Mechanism;
 use dem::Place;
+use last_equal::Span;
 use suggested::Added;
 use suggested::Size;
-use suggested::Span;
 
 // What splitting a mechanism comes to.
 pub enum Step {
@@ -92,7 +92,7 @@ fn add_cover(
     let Cover::Members(n) = found else {
         return false;
     };
-    suggested::raise_all(&chosen[0..n], p, probability);
+    probability::raise_all(&chosen[0..n], p, probability);
     true
 }
 

@@ -7,9 +7,9 @@ use mathlib.Core.Bool.{true}
 use mathlib.Core.List.{List, [], _++_}
 use lib.ListN.{length, take, drop, length-append}
 use borrow.Rule.Slice.PartMut.{midOf}
-use Rattle.graph.specs.Tables.{Slices}
+use Rattle.edges.specs.Tables.{Slices}
 use Rattle.frames.specs.Input.{linesOf}
-use Rattle.line_laws.specs.Laws.{longest, unended}
+use Rattle.frames.specs.LineLaws.{longest, unended}
 use Rattle.reader.specs.Columns.{Columns}
 use Rattle.session.specs.declared.Numbers.{Numbers}
 use Rattle.session.specs.Output.{Session, begin, answers}
@@ -18,9 +18,9 @@ use Rattle.stream.specs.declared.Place.{Place}
 use Rattle.stream.specs.declared.Fed.the-variants as fed
 use Rattle.stream.specs.Fed.{startPlace, Placed, At, Standing, Feeds}
 use Rattle.input_end.specs.Finish.{Finishes}
-use Rattle.whole_input.proofs.Outputs.{begin-keeps}
+use Rattle.stream.proofs.Begins.{begin-keeps}
 use Rattle.stream.proofs.Blocks.{appended-long}
-use Rattle.whole_input.specs.Whole.{Long}
+use Rattle.stream.specs.Long.{Long}
 use Rattle.standard_input.specs.Ready.{Ready}
 
 -- ---- before the first block

@@ -2,7 +2,7 @@
 use Prim.Native.Nat.{ℕ, _≤_}
 use mathlib.Core.List.{List}
 use lib.ListN.{length, take}
-use Rattle.graph.specs.Tables.{Slices}
+use Rattle.edges.specs.Tables.{Slices}
 use Rattle.reader.specs.Columns.{Columns}
 use Rattle.stream.specs.declared.Place.{Place}
 use Rattle.stream.specs.Fed.{Standing}

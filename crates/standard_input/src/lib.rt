@@ -10,11 +10,11 @@ ghost use mathlib.Core.Bool.{true};
 ghost use mathlib.Core.List.{[]};
 ghost use Prim.Native.Nat.{_≤_};
 ghost use lib.ListN.{length, take};
-ghost use Rattle.graph.specs.Tables.{slices};
-ghost use Rattle.line_laws.specs.Laws.{unended};
+ghost use Rattle.edges.specs.Tables.{slices};
+ghost use Rattle.frames.specs.LineLaws.{unended};
 ghost use Rattle.reader.specs.Columns.{columns};
 ghost use Rattle.session.specs.Kept.{Kept};
-ghost use Rattle.whole_input.specs.Whole.{Long};
+ghost use Rattle.stream.specs.Long.{Long};
 ghost use Rattle.standard_input.specs.Ready.{Ready, Stays};
 
 enum Turn {

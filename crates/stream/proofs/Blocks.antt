@@ -1,18 +1,18 @@
 -- Parts of a block, of a line and of the output.
 use Prim.Native.Nat.{ℕ, suc, _+_, _-_, _<_, _≤_}
 use native.Mathlib.Omega.{arith}
-use mathlib.Core.Path.{_≡_, refl, sym, ap, ap₂, _∙_}
+use mathlib.Core.Path.{_≡_, refl, sym, ap, _∙_}
 use mathlib.Core.Bool.{Bool, true, false, not, _&&_}
 use mathlib.Core.List.{List, [], _∷_, _++_, append-assoc, append-nil}
-use lib.ListN.{length, getD, take, drop, set, length-append, length-take, length-drop, take-append-drop}
+use lib.ListN.{length, getD, take, drop, set, length-append, length-drop, take-append-drop}
 use lib.Seq.{take-suc, take-suc-set, getD-drop, drop-drop, take-add, length-take-le, drop-append-le, sets, sets-eq, length-sets}
 use lib.Dec.{eqb}
-use borrow.Rule.Slice.PartMut.{midOf, putMid, postOf, mid-len, same-len-mid}
+use borrow.Rule.Slice.PartMut.{midOf, putMid, postOf, mid-len}
 use borrow.Author.Tests.{ne-eqb}
 use Rattle.dem.specs.Tables.{written}
-use Rattle.hex.proofs.Texts.{sets-append}
-use Rattle.line_laws.specs.Laws.{unended}
-use Rattle.stream.specs.Fed.{between, LineEnd, Appended}
+use Rattle.lists.proofs.Slices.{sets-append}
+use Rattle.frames.specs.LineLaws.{unended}
+use Rattle.stream.specs.Fed.{between, Appended}
 
 -- ---- parts of a block
 

@@ -4,24 +4,23 @@ use native.Mathlib.Omega.{arith}
 use mathlib.Core.Path.{_≡_, refl, sym, ap, ap₂, _∙_, subst}
 use mathlib.Core.Bool.{true}
 use mathlib.Core.List.{List, [], _∷_, _++_}
-use mathlib.Core.Logic.{_⊎_, inl, inr, ⊎-elim}
-use lib.ListN.{length, getD, take, drop, length-append}
+use mathlib.Core.Logic.{_⊎_, inl, inr}
+use lib.ListN.{length, take, drop, length-append}
 use lib.Seq.{length-take-le}
-use Rattle.codes.specs.declared.Refusal.{Refusal}
 use Rattle.codes.specs.declared.Refusal.the-variants.{Frame}
-use Rattle.graph.specs.Tables.{Slices}
-use Rattle.line_laws.specs.Laws.{longest, unended}
+use Rattle.edges.specs.Tables.{Slices}
+use Rattle.frames.specs.LineLaws.{longest, unended}
 use Rattle.reader.specs.Columns.{Columns}
-use Rattle.last_line.specs.Last.{refusalText}
+use Rattle.replies.specs.Last.{refusalText}
 use Rattle.frames.specs.Input.{linesOf}
 use Rattle.session.specs.Output.{Session, Answer, goes, ends, answerLine, answers}
-use Rattle.session.specs.Kept.{numbersOf, Sizes, Keeps, Kept, textOf, columnsAfter, slicesAfter, KeptOn}
+use Rattle.session.specs.Kept.{Kept, textOf, KeptOn}
 use Rattle.session.specs.Memory.{Memory, memory, afterLine, memoryAfter}
 use Rattle.stream.specs.declared.Place.{Place}
 use Rattle.stream.specs.declared.Fed.{Fed}
 use Rattle.stream.specs.declared.Fed.the-variants as fed
 use Rattle.stream.specs.Text.{Comes, Closes, Leads, Settles}
-use Rattle.stream.specs.Fed.{between, LineEnd, fedOf, Appended, Whole, Placed, At, Standing, Onward, Over, Reached, Feeds, Further, Pressed, Presses}
+use Rattle.stream.specs.Fed.{between, LineEnd, fedOf, Appended, Whole, At, Standing, Onward, Reached, Feeds, Further, Pressed, Presses}
 use Rattle.stream.proofs.Parts.{on, closed, leads, settles}
 use Rattle.stream.proofs.Blocks.{between-none, between-next, between-rest, between-split, between-long, unended-both, appended-none, appended-both, appended-long}
 use Rattle.stream.proofs.Steps.{part-comes, part-leads, line-comes, line-closes, line-leads, line-settles, long-closes, long-settles}

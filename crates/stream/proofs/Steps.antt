@@ -8,10 +8,10 @@ use lib.ListN.{length, length-append}
 use Rattle.codes.specs.declared.Refusal.{Refusal}
 use Rattle.codes.specs.declared.Refusal.the-variants.{Frame}
 use Rattle.frames.specs.Input.{over, linesOf}
-use Rattle.line_laws.specs.Laws.{longest, unended}
-use Rattle.line_laws.proofs.Long.{too-long}
-use Rattle.line_laws.proofs.Cut.{ended, begun}
-use Rattle.last_line.specs.Last.{refusalText}
+use Rattle.frames.specs.LineLaws.{longest, unended}
+use Rattle.frames.proofs.Long.{too-long}
+use Rattle.frames.proofs.Cut.{ended, begun}
+use Rattle.replies.specs.Last.{refusalText}
 use Rattle.session.specs.Output.{Session, Answer, goes, ends, goOn, answerLine, answers}
 use Rattle.session.specs.Memory.{Memory, afterLine, goOnWith, memoryAfter}
 use Rattle.stream.specs.Text.{Comes, Closes, Leads, Settles}

@@ -6,10 +6,10 @@ use mathlib.Core.List.{List}
 use mathlib.Core.Logic.{_⊎_}
 use lib.ListN.{length, getD, take, drop}
 use lib.Seq.{sets}
-use Rattle.graph.specs.Tables.{Slices}
-use Rattle.line_laws.specs.Laws.{longest, unended}
+use Rattle.edges.specs.Tables.{Slices}
+use Rattle.frames.specs.LineLaws.{longest, unended}
 use Rattle.reader.specs.Columns.{Columns}
-use Rattle.last_line.specs.Last.{refusalText}
+use Rattle.replies.specs.Last.{refusalText}
 use Rattle.session.specs.Output.{Session, Answer, goes, ends, begin, answerLine, longestReply}
 use Rattle.session.specs.Kept.{numbersOf, Sizes, Keeps, textOf, columnsAfter, slicesAfter, KeptOn}
 use Rattle.session.specs.Memory.{memory}

@@ -1,3 +1,4 @@
-pub mod Text
-pub mod Laws
 pub mod Fed
+pub mod Laws
+pub mod Long
+pub mod Text

@@ -7,9 +7,9 @@ ghost use mathlib.Core.List.{[], _++_};
 ghost use Prim.Native.Nat.{_+_, _-_, _<_, _≤_};
 ghost use lib.ListN.{length, take};
 ghost use Rattle.codes.specs.declared.Refusal.the-variants.{Frame};
-ghost use Rattle.graph.specs.Tables.{slices};
+ghost use Rattle.edges.specs.Tables.{slices};
 ghost use Rattle.reader.specs.Columns.{columns};
-ghost use Rattle.last_line.specs.Last.{refusalText};
+ghost use Rattle.replies.specs.Last.{refusalText};
 ghost use Rattle.session.specs.Kept.{Kept};
 ghost use Rattle.stream.specs.declared.Fed.the-variants as fed;
 ghost use Rattle.stream.specs.Fed.{startPlace, between, LineEnd, Appended, Whole, Standing, Feeds, Further, Presses};
@@ -82,7 +82,7 @@ fn refuse_long(out: &mut [u8], filled: usize) -> Fed
     requires { ⌜ filled + 5 ≤ length (now out) ⌝ }
     ensures { λ r. ⌜ (r ≡ fed.Ended (filled + length (refusalText Frame))) × Appended filled (refusalText Frame) (now (out .entry)) (now (out .exit)) ⌝ }
 {
-    let written = last_line::write_refusal(Refusal::Frame, &mut out[filled..]);
+    let written = replies::write_refusal(Refusal::Frame, &mut out[filled..]);
     Fed::Ended(filled + written)
 }
 

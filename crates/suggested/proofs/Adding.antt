@@ -1,37 +1,35 @@
 -- A component added to the model in its tables.
-use Prim.Native.Nat.{ℕ, suc, _+_, _-_, _<_, _≤_}
-use native.Mathlib.Numerals.{add-one}
+use Prim.Native.Nat.{ℕ, _+_, _-_, _<_, _≤_}
 use native.Mathlib.Omega.{arith}
 use mathlib.Core.Path.{_≡_, refl, sym, ap, ap₂, _∙_, subst}
-use mathlib.Core.List.{List, [], _∷_, _++_, append-nil}
-use mathlib.Core.Bool.{Bool, true, false, cond, _&&_}
+use mathlib.Core.List.{List, [], _∷_, _++_}
+use mathlib.Core.Bool.{Bool, true, false, _&&_}
 use mathlib.Core.Option.{Option, none, some}
 use lib.Dec.{eqb, leb, ltb}
 use lib.IntN.{pos}
 use lib.Ieee.{Float, fin}
-use lib.ListN.{length, getD, set, take, drop, length-append, length-set, List·getD-append}
+use lib.ListN.{length, getD, set, take, drop, length-append, length-set, List·getD-append, length-drop}
 use lib.Seq.{getD-append-seam, length-take-le}
 use borrow.Author.Tests.{eqb-true, eqb-false, ltb-true, leb-true}
-use lib.ListN.{length-drop}
 use Rattle.lists.proofs.Truth.{case-of, and-left, and-right}
-use Rattle.codes.specs.declared.Refusal.the-variants.{Limit}
 use Rattle.dem.specs.Model.{Symptom, ErrorMechanism}
 use Rattle.dem.specs.Tables.{Tables, tablesOf, written, symptomEntries}
-use Rattle.dem.specs.Decompose.{Places, Split, into, refused, plus, addAt, sameSymptom, lastEqual, entriesOf, hasPlace, addComponent, addNext}
-use Rattle.cover.specs.Kept.{detectorsAt, symptomAt, Detectors, Observables}
+use Rattle.dem.specs.Decompose.{into, plus, addAt, sameSymptom, lastEqual, entriesOf, hasPlace, addComponent, addNext}
+use Rattle.cover.specs.Kept.{symptomAt}
 use Rattle.cover.specs.Search.{previous}
 use Rattle.cover.proofs.Turn.{previous-le}
-use Rattle.copies.proofs.Written.{written-set}
-use Rattle.copies.proofs.Kept.{tables-append}
-use Rattle.suggested.specs.declared.Span.{Span}
+use Rattle.kept.proofs.Written.{written-set}
+use Rattle.kept.proofs.Kept.{tables-append}
+use Rattle.last_equal.specs.declared.Span.{Span}
 use Rattle.suggested.specs.declared.Size.{Size}
 use Rattle.suggested.specs.declared.Added.{Added}
 use Rattle.suggested.specs.declared.Added.the-variants.{Now, Full}
-use Rattle.suggested.specs.Probability.{raisedAt}
-use Rattle.suggested.specs.Last.{symptomIn, Chained, Component, Findable, Appendable, Appended}
+use Rattle.probability.specs.Probability.{raisedAt}
+use Rattle.last_equal.specs.Last.{symptomIn, Component, Findable}
+use Rattle.suggested.specs.Appended.{Appendable, Appended}
 use Rattle.suggested.specs.Held.{placesOf, sizeOf, placeFor, Holds, Outcome, Roomy}
-use Rattle.suggested.proofs.Same.{length-raised}
-use Rattle.suggested.proofs.Chain.{previous-cong}
+use Rattle.probability.proofs.Raising.{length-raised}
+use Rattle.last_equal.proofs.Chain.{previous-cong}
 use Rattle.suggested.proofs.Models.{raised-tables, raised-length, raised-entries, raised-symptom, raised-written, lengths, entries-append, last-some, last-none}
 use Rattle.suggested.proofs.Appending.{more-detectors, more-observables, symptom-before, symptom-here}
 

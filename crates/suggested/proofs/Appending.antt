@@ -1,16 +1,16 @@
 -- One more mechanism in the tables of starts and counts.
-use Prim.Native.Nat.{ℕ, suc, _+_, _-_, _<_, _≤_}
+use Prim.Native.Nat.{ℕ, _+_, _-_, _<_, _≤_}
 use native.Mathlib.Omega.{arith}
-use mathlib.Core.Path.{_≡_, refl, sym, ap, ap₂, _∙_, subst}
+use mathlib.Core.Path.{_≡_}
 use mathlib.Core.List.{List}
-use mathlib.Core.Bool.{true, false}
+use mathlib.Core.Bool.{true}
 use lib.Dec.{eqb, leb}
-use lib.ListN.{length, getD, set, take, drop, length-set}
+use lib.ListN.{length, set, take, drop, length-set}
 use lib.Seq.{getD-set-same, getD-set-other}
 use borrow.Author.Tests.{eqb-true, eqb-false, leb-true, le-leb}
 use Rattle.lists.proofs.Truth.{case-of, iff-eq}
-use Rattle.dem.specs.Model.{Symptom, listFits}
-use Rattle.cover.specs.Kept.{detectorsAt, observablesAt, symptomAt, Detectors, Observables}
+use Rattle.dem.specs.Model.{listFits}
+use Rattle.cover.specs.Kept.{detectorsAt, symptomAt, Detectors, Observables}
 
 pub leb-sub : (a b c : ℕ) → a ≤ c → leb b (c - a) ≡ leb (a + b) c
 leb-sub a b c h = iff-eq (leb b (c - a)) (leb (a + b) c) (λ t. let e = leb-true b (c - a) t in le-leb (a + b) c (omega arith)) (λ t. let e = leb-true (a + b) c t in le-leb b (c - a) (omega arith))

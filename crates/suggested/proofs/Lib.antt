@@ -1,5 +1,3 @@
-pub mod Same
-pub mod Chain
 pub mod Models
 pub mod Appending
 pub mod Adding

@@ -1,21 +1,21 @@
 -- Models that change: p added to a mechanism, or a mechanism appended.
-use Prim.Native.Nat.{ℕ, zero, suc, _+_, _<_, _≤_}
-use native.Mathlib.Nat.{add-zero, add-assoc, add-comm}
+use Prim.Native.Nat.{ℕ, zero, suc, _+_, _<_}
+use native.Mathlib.Nat.{add-zero}
 use native.Mathlib.Omega.{arith}
-use mathlib.Core.Path.{_≡_, refl, sym, ap, ap₂, _∙_}
+use mathlib.Core.Path.{_≡_, refl, sym, ap, _∙_}
 use mathlib.Core.List.{List, [], _∷_, _++_}
 use mathlib.Core.Bool.{Bool, true, false, cond}
 use mathlib.Core.Option.{Option, none, some}
-use lib.ListN.{length, getD, set, drop, length-append, length-set, List·getD-append}
+use lib.ListN.{length, getD, drop, length-set, List·getD-append}
 use lib.Seq.{set-append-left}
 use lib.Ieee.{Float, nan}
 use Rattle.lists.proofs.Truth.{case-of}
 use Rattle.dem.specs.Model.{Symptom, ErrorMechanism}
-use Rattle.dem.specs.Tables.{Tables, tablesOf, written, symptomEntries}
+use Rattle.dem.specs.Tables.{tablesOf, written, symptomEntries}
 use Rattle.dem.specs.Positions.{tables}
 use Rattle.dem.specs.Decompose.{plus, addAt, sameSymptom, orElse, lastEqual, entriesOf}
 use Rattle.cover.specs.Search.{previous}
-use Rattle.suggested.specs.Probability.{raisedAt}
+use Rattle.probability.specs.Probability.{raisedAt}
 
 -- ---- p added
 

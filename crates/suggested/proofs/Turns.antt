@@ -1,14 +1,14 @@
 -- Every component, in order.
-use Prim.Native.Nat.{ℕ, zero, suc, _+_, _-_, _<_, _≤_}
+use Prim.Native.Nat.{ℕ, suc, _+_, _-_, _<_, _≤_}
 use native.Mathlib.Omega.{arith}
-use mathlib.Core.Path.{_≡_, refl, sym, ap, ap₂, _∙_, subst}
+use mathlib.Core.Path.{_≡_, refl, sym, ap, _∙_, subst}
 use mathlib.Core.List.{List, [], _∷_, _++_}
-use mathlib.Core.Bool.{Bool, true, false, not, cond, _&&_, _||_}
+use mathlib.Core.Bool.{true, false, not, _&&_, _||_}
 use mathlib.Core.Option.{Option, none, some}
 use lib.Dec.{leb}
 use lib.IntN.{pos}
 use lib.Ieee.{Float, fin}
-use lib.ListN.{length, getD, take, drop, length-append, length-drop}
+use lib.ListN.{length, getD, drop, length-append, length-drop}
 use lib.Seq.{drop-drop, length-take-le}
 use borrow.Author.Tests.{leb-true, not-false}
 use Rattle.lists.specs.Lists.{any}
@@ -17,15 +17,14 @@ use Rattle.codes.specs.declared.Refusal.{Refusal}
 use Rattle.codes.specs.declared.Refusal.the-variants.{Limit}
 use Rattle.dem.specs.Model.{Symptom, ErrorMechanism, listFits, symptomFits, symptomsFit}
 use Rattle.dem.specs.Tables.{Tables, componentsOf, componentEntries}
-use Rattle.dem.specs.Positions.{Within}
 use Rattle.dem.specs.Decompose.{Places, Split, into, refused, plus, addAt, hasPlace, addComponent, addNext, addComponents, lastEqual, oneOrTwo}
 use Rattle.dem.proofs.Checks.{first-of, next-of, first-inside, others-inside}
-use Rattle.suggested.specs.declared.Span.{Span}
+use Rattle.last_equal.specs.declared.Span.{Span}
 use Rattle.suggested.specs.declared.Size.{Size}
 use Rattle.suggested.specs.declared.Added.{Added}
 use Rattle.suggested.specs.declared.Added.the-variants.{Now, Full}
-use Rattle.suggested.specs.Last.{symptomIn, Component}
-use Rattle.suggested.specs.Held.{placesOf, sizeOf, Holds, Outcome, Roomy, componentsFrom, Suggested}
+use Rattle.last_equal.specs.Last.{symptomIn, Component}
+use Rattle.suggested.specs.Held.{placesOf, sizeOf, Holds, Outcome, componentsFrom, Suggested}
 use Rattle.suggested.proofs.Models.{raised-length}
 
 -- ---- the next component
@@ -106,7 +105,7 @@ unfolding addComponents
 stopped room p [] r = refl
 stopped room p (c ∷ cs) r = stopped room p cs r
 
-none-in : {A : Type 0} (r : Refusal) (ms : List ErrorMechanism) → refused r ≡ into ms → A
+pub none-in : {A : Type 0} (r : Refusal) (ms : List ErrorMechanism) → refused r ≡ into ms → A
 none-in r ms e = absurd (let z : _≡_ {A = ℕ} 0 1 = cc in omega arith)
 
 abbrev fresh : Float → Symptom → ErrorMechanism

@@ -6,7 +6,6 @@ use mathlib.Core.Bool.{Bool, true, false, not, _&&_}
 use lib.ListN.{length, getD, drop}
 use lib.Dec.{leb, ltb}
 use lib.Ieee.{Float}
-use Rattle.codes.specs.declared.Refusal.{Refusal}
 use Rattle.codes.specs.declared.Refusal.the-variants.{Limit}
 use Rattle.dem.specs.Model.{Symptom, ErrorMechanism, symptomsFit}
 use Rattle.dem.specs.Tables.{Tables, tablesOf, written, componentsOf, componentEntries}
@@ -17,7 +16,7 @@ use Rattle.cover.specs.Kept.{detectorsAt, symptomAt, Detectors, Observables}
 use Rattle.suggested.specs.declared.Size.{Size}
 use Rattle.suggested.specs.declared.Added.{Added}
 use Rattle.suggested.specs.declared.Added.the-variants.{Now, Full}
-use Rattle.suggested.specs.Last.{Chained}
+use Rattle.last_equal.specs.Last.{Chained}
 
 abbrev pub placesOf : Size → Places
 placesOf s = record { mechanisms = s .mechanisms; entries = s .entries }

@@ -1,3 +1,2 @@
-pub mod Probability
-pub mod Last
 pub mod Held
+pub mod Appended

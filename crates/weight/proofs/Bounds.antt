@@ -8,10 +8,10 @@ use lib.IntN.{pos}
 use lib.Dec.{lit≤, lit<}
 use lib.Pow.{pow-pos}
 use lib.Ieee.{Float, binary64, fits, add, mul, le, lt, ofInt, ofBits, toBits}
-use Rattle.rounding.proofs.Err.{U}
-use Rattle.rounding.proofs.Values.{Units, int-units}
-use Rattle.rounding.proofs.Ops.{mul-units}
-use Rattle.rounding.proofs.Range.{Range, round-range, whole-range, range-more, add-range, sub-range, mul-range, div-range}
+use Rattle.weight.proofs.Err.{U}
+use Rattle.weight.proofs.Values.{Units, int-units}
+use Rattle.weight.proofs.Ops.{mul-units}
+use Rattle.weight.proofs.Range.{Range, round-range, whole-range, range-more, add-range, sub-range, mul-range, div-range}
 use Rattle.weight.specs.Weight.{one, two, infinity, logTwo, exponent, significand, ratio, coefficient, steps, sumAt, series, logarithm}
 use Rattle.weight.proofs.Parts.{m-units, y-units, digits-least, digits-most}
 

@@ -10,8 +10,8 @@ use lib.Ieee.{Float, inf, fin, binary64, fits, le, lt, eq, ofBits}
 use lib.Ieee.Bits.{is-true}
 use lib.Ieee.Fits.{div-fits}
 use lib.Ieee.Order.{le-of-values}
-use Rattle.rounding.proofs.Err.{U}
-use Rattle.rounding.proofs.Range.{Range}
+use Rattle.weight.proofs.Err.{U}
+use Rattle.weight.proofs.Range.{Range}
 use Rattle.weight.specs.Weight.{zero64, one, infinity, odds, logarithm, weightAt, weightOf, weightFits}
 use Rattle.weight.specs.Laws.{Laws}
 use Rattle.weight.proofs.Parts.{split}

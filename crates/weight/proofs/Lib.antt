@@ -1,4 +1,9 @@
-pub mod Table
-pub mod Parts
+pub mod Approx
 pub mod Bounds
+pub mod Err
 pub mod Laws
+pub mod Ops
+pub mod Parts
+pub mod Range
+pub mod Table
+pub mod Values

@@ -12,8 +12,8 @@ use lib.Ieee.{Float, nan, inf, fin, binary64, up, down, odd, fits, le, lt, isNan
 use lib.Ieee.Fits.{down-pos, and-l, eq→eqb}
 use lib.Ieee.Bits.{cond-no, toBits-lt, ofBits-toBits}
 use lib.Ieee.Exact.{HasValue, odd-sign}
-use Rattle.rounding.proofs.Err.{U}
-use Rattle.rounding.proofs.Values.{Units}
+use Rattle.weight.proofs.Err.{U}
+use Rattle.weight.proofs.Values.{Units}
 use Rattle.weight.specs.Weight.{one, infinity, exponent, significand}
 use Rattle.weight.specs.Laws.{digits, Split}
 

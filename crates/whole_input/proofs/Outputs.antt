@@ -1,5 +1,5 @@
 -- What was written is what the input is answered with.
-use Prim.Native.Nat.{ℕ, zero, suc, _+_, _-_, _<_, _≤_}
+use Prim.Native.Nat.{ℕ, suc, _+_, _-_, _<_, _≤_}
 use native.Mathlib.Omega.{arith}
 use native.Mathlib.Nat.{sub-zero, zero-add}
 use mathlib.Core.Path.{_≡_, refl, sym, ap, ap₂, _∙_, subst}
@@ -7,31 +7,31 @@ use mathlib.Core.Bool.{true, false}
 use mathlib.Core.List.{List, [], _∷_, _++_, append-assoc, append-nil}
 use mathlib.Core.Logic.{_⊎_, inl, inr}
 use lib.Dec.{leb, ltb}
-use lib.ListN.{length, take, drop, set, length-append, length-set, length-take, take-append-drop}
+use lib.ListN.{length, take, drop, length-append, take-append-drop}
 use lib.Seq.{take-all, take-at, length-take-le, set-out, sets, sets-eq, length-sets}
 use borrow.Author.Tests.{le-leb, leb-true, ltb-true, ltb-false}
 use borrow.Rule.Slice.PartMut.{midOf}
 use Rattle.lists.proofs.Truth.{case-of}
 use Rattle.dem.specs.Tables.{written}
-use Rattle.graph.specs.Tables.{Slices, flat}
-use Rattle.hex.proofs.Texts.{sets-append}
-use Rattle.frames.specs.Input.{start, linesOf}
-use Rattle.frames.specs.declared.Stage.the-variants.{Nothing, AfterRow}
-use Rattle.line_laws.specs.Laws.{unended}
+use Rattle.edges.specs.Tables.{Slices}
+use Rattle.lists.proofs.Slices.{sets-append}
+use Rattle.frames.specs.Input.{linesOf}
+use Rattle.frames.specs.LineLaws.{unended}
 use Rattle.reader.specs.Columns.{Columns}
-use Rattle.reader.proofs.Laws.{laws}
-use Rattle.session.specs.Output.{Session, begin, answers, outputOf}
-use Rattle.session.specs.Kept.{numbersOf, Sizes, Keeps, Kept}
+use Rattle.stream.proofs.Begins.{begin-keeps}
+use Rattle.session.specs.Output.{begin, answers, outputOf}
+use Rattle.session.specs.Kept.{Kept}
 use Rattle.stream.specs.declared.Place.{Place}
 use Rattle.stream.specs.declared.Fed.the-variants as fed
 use Rattle.stream.specs.Text.{Comes, Closes}
-use Rattle.stream.specs.Fed.{startPlace, between, Appended, Placed, At, Standing, Onward, Over, Feeds}
+use Rattle.stream.specs.Fed.{startPlace, between, Appended, Standing, Onward, Over, Feeds}
 use Rattle.stream.proofs.Parts as parts
 use Rattle.stream.proofs.Blocks.{between-none, between-rest, between-split}
 use Rattle.input_end.specs.Finish.{Finishes}
 use Rattle.whole_input.specs.declared.Output.{Output}
 use Rattle.whole_input.specs.declared.Output.the-variants as output
-use Rattle.whole_input.specs.Whole.{fitted, Answered, Long, Put, Filled}
+use Rattle.whole_input.specs.Whole.{fitted, Answered, Put, Filled}
+use Rattle.stream.specs.Long.{Long}
 
 -- ---- a text stored as far as it fits
 
@@ -88,22 +88,6 @@ answered-fits input n was out a =
     omega (arith, le, same, ap length (a .text), length-sets was 0 (outputOf input))
 
 -- ---- before the first byte
-
-no-row : {A : Type 0} → Nothing ≡ AfterRow → A
-no-row e = let z : _≡_ {A = ℕ} 0 1 = cc in absurd (omega arith)
-
-pub begin-keeps : (c : Columns) (g : Slices) → Keeps begin c g
-unfolding begin start flat
-begin-keeps c g =
-    let h = laws .first c in
-    record {
-      within = h .within;
-      tables = h .tables;
-      row = λ e. no-row e;
-      graph = record { u = refl; v = refl; weight = refl; obs = refl; others = refl; weights = refl };
-      shots = omega arith;
-      failures = omega arith;
-    }
 
 pub filled-first : (p : Place) → p ≡ startPlace → (c : Columns) (g : Slices) (input line reply out : List ℕ) → Long c g line reply → Filled input p 0 c g line reply out out
 unfolding unended

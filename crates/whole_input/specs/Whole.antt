@@ -6,10 +6,8 @@ use mathlib.Core.List.{List, []}
 use lib.Dec.{leb}
 use lib.ListN.{length, take}
 use lib.Seq.{sets}
-use Rattle.graph.specs.Tables.{Slices}
-use Rattle.line_laws.specs.Laws.{longest}
+use Rattle.edges.specs.Tables.{Slices}
 use Rattle.reader.specs.Columns.{Columns}
-use Rattle.session.specs.Kept.{Sizes}
 use Rattle.session.specs.Output.{Session, begin, outputOf}
 use Rattle.stream.specs.declared.Place.{Place}
 use Rattle.stream.specs.Text.{Comes}
@@ -32,12 +30,6 @@ pub record Answered (input : List ℕ) (r : Output) (was out : List ℕ) : Type 
   pub text : out ≡ sets was 0 (outputOf input)
 
 -- ---- on the way
-
--- tables and buffers as long as they have to be: the longest line, and what a last line and the end are answered with
-pub record Long (c : Columns) (g : Slices) (line reply : List ℕ) : Type 0 where
-  pub sizes : Sizes c g
-  pub buffer : length line ≡ longest
-  pub room : 1101 ≤ length reply
 
 -- text stored behind the first bytes, as far as it fits
 pub record Put (text : List ℕ) (at : ℕ) (r : Output) (was out : List ℕ) : Type 0 where

@@ -5,9 +5,10 @@ ghost use mathlib.Core.Path.{_≡_};
 ghost use mathlib.Core.List.{[]};
 ghost use Prim.Native.Nat.{_≤_};
 ghost use lib.ListN.{length};
-ghost use Rattle.graph.specs.Tables.{slices};
+ghost use Rattle.edges.specs.Tables.{slices};
 ghost use Rattle.reader.specs.Columns.{columns};
-ghost use Rattle.whole_input.specs.Whole.{Answered, Long, Put, Reaches};
+ghost use Rattle.whole_input.specs.Whole.{Answered, Put, Reaches};
+ghost use Rattle.stream.specs.Long.{Long};
 
 pub enum Output {
     // so many bytes, all that the input is answered with
@@ -36,10 +37,10 @@ fn put(text: &[u8], at: usize, out: &mut [u8]) -> Output
 {
     let room = out.len() - at;
     if room < text.len() {
-        copies::copy_bytes(&text[0..room], out, at);
+        tables::copy_bytes(&text[0..room], out, at);
         return Output::NoRoom;
     }
-    copies::copy_bytes(text, out, at);
+    tables::copy_bytes(text, out, at);
     Output::Whole(at + text.len())
 }
 

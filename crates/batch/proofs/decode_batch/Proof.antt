@@ -4,8 +4,8 @@ use native.Mathlib.Omega.{arith}
 use lib.ListN.{length}
 use Rattle.codes.specs.declared.Checked.the-variants.{Accepted, Refused}
 use Rattle.scratch.specs.Scratch.{lengthsOf}
-use Rattle.calls.specs.Call.{lentOf}
-use Rattle.tabled.proofs.Laws.{to-tabulate, longer}
+use Rattle.lent_graph.specs.Call.{lentOf}
+use Rattle.own_slices.proofs.Laws.{to-tabulate, longer}
 use Rattle.batch.specs.Batch.{handed}
 use Rattle.batch.proofs.Calls.{own-is, checks-by, refused, accepts, scratch, given-rows, decoded}
 use borrow.Author.Needs.{needs}
@@ -42,8 +42,8 @@ tabulate-requires c κs =
     let s = scratch h yes in
     to-tabulate k (args .adj-offsets .now) (args .adj .now) (s .adj-offsets) (s .adj)
 
-decode-parts-requires : tie.Need-decode-parts-requires
-decode-parts-requires c κs =
+reset-and-decode-rows-requires : tie.Need-reset-and-decode-rows-requires
+reset-and-decode-rows-requires c κs =
     let args = c .before .before .before .before .before .before .before .before .before .before .before .before .before .before .before .before .before .before .before .before .before .before .before .before .before .before .before .before .before .before .args in
     let own-long = c .before .before .before .before .before .before .before .before .before .before .before .before .before .before .before .before .before .before .before .own-long in
     let tabulate = c .before .before .before .before .before .before .before .before .before .before .before .before .before .tabulate in
@@ -54,10 +54,10 @@ decode-parts-requires c κs =
     (longer k (tabulate .last .1 .1 .1 .1 .0) (tabulate .last .1 .1 .1 .1 .1 .0) (omega (arith, s .adj-offsets, tabulate .kept .1 .1 .1 .1 .0)) (tabulate .ensures), (given-rows h yes (args .list .now) refl, (record { trees = s .tree; flagged = s .flags; growths = s .growth; sats = s .sat }, (s .stacks, s .links))))
 
 same-length : tie.Need-same-length
-same-length c = c .before .before .before .before .before .before .before .before .before .before .before .before .decode-parts .kept .1 .1 .1 .1 .1 .1 .1 .1 .1 .1 .1 .0
+same-length c = c .before .before .before .before .before .before .before .before .before .before .before .before .reset-and-decode-rows .kept .1 .1 .1 .1 .1 .1 .1 .1 .1 .1 .1 .0
 
 same-length-2 : tie.Need-same-length-2
-same-length-2 c = c .before .before .before .before .before .before .before .before .before .before .before .before .decode-parts .kept .1 .1 .1 .1 .1 .1 .1 .1 .1 .1 .1 .1 .0
+same-length-2 c = c .before .before .before .before .before .before .before .before .before .before .before .before .reset-and-decode-rows .kept .1 .1 .1 .1 .1 .1 .1 .1 .1 .1 .1 .1 .0
 
 same-length-3 : tie.Need-same-length-3
 same-length-3 c = c .before .before .before .before .before .before .before .before .before .before .before .before .before .before .before .before .before .before .before .before .before .before .before .before .before .before .tabulate .kept .1 .1 .1 .1 .0
@@ -66,22 +66,22 @@ same-length-4 : tie.Need-same-length-4
 same-length-4 c = c .before .before .before .before .before .before .before .before .before .before .before .before .before .before .before .before .before .before .before .before .before .before .before .before .before .before .tabulate .kept .1 .1 .1 .1 .1 .0
 
 same-length-5 : tie.Need-same-length-5
-same-length-5 c = c .before .before .before .before .before .before .before .before .before .before .before .before .decode-parts .kept .1 .1 .1 .1 .1 .1 .1 .1 .1 .1 .1 .1 .1 .0
+same-length-5 c = c .before .before .before .before .before .before .before .before .before .before .before .before .reset-and-decode-rows .kept .1 .1 .1 .1 .1 .1 .1 .1 .1 .1 .1 .1 .1 .0
 
 same-length-6 : tie.Need-same-length-6
-same-length-6 c = c .before .before .before .before .before .before .before .before .before .before .before .before .decode-parts .kept .1 .1 .1 .1 .1 .1 .1 .1 .1 .1 .1 .1 .1 .1 .0
+same-length-6 c = c .before .before .before .before .before .before .before .before .before .before .before .before .reset-and-decode-rows .kept .1 .1 .1 .1 .1 .1 .1 .1 .1 .1 .1 .1 .1 .1 .0
 
 same-length-7 : tie.Need-same-length-7
-same-length-7 c = c .before .before .before .before .before .before .before .before .before .before .before .before .decode-parts .kept .1 .1 .1 .1 .1 .1 .1 .1 .1 .1 .1 .1 .1 .1 .1 .0
+same-length-7 c = c .before .before .before .before .before .before .before .before .before .before .before .before .reset-and-decode-rows .kept .1 .1 .1 .1 .1 .1 .1 .1 .1 .1 .1 .1 .1 .1 .1 .0
 
 same-length-8 : tie.Need-same-length-8
-same-length-8 c = c .before .before .before .before .before .before .before .before .before .before .before .before .decode-parts .kept .1 .1 .1 .1 .1 .1 .1 .1 .1 .1 .1 .1 .1 .1 .1 .1 .0
+same-length-8 c = c .before .before .before .before .before .before .before .before .before .before .before .before .reset-and-decode-rows .kept .1 .1 .1 .1 .1 .1 .1 .1 .1 .1 .1 .1 .1 .1 .1 .1 .0
 
 same-length-9 : tie.Need-same-length-9
-same-length-9 c = c .before .before .before .before .before .before .before .before .before .before .before .before .decode-parts .kept .1 .1 .1 .1 .1 .1 .1 .1 .1 .1 .1 .1 .1 .1 .1 .1 .1 .0
+same-length-9 c = c .before .before .before .before .before .before .before .before .before .before .before .before .reset-and-decode-rows .kept .1 .1 .1 .1 .1 .1 .1 .1 .1 .1 .1 .1 .1 .1 .1 .1 .1 .0
 
 same-length-10 : tie.Need-same-length-10
-same-length-10 c = c .before .before .before .before .before .before .before .before .before .before .before .before .decode-parts .kept .1 .1 .1 .1 .1 .1 .1 .1 .1 .1 .1 .1 .1 .1 .1 .1 .1 .1 .0
+same-length-10 c = c .before .before .before .before .before .before .before .before .before .before .before .before .reset-and-decode-rows .kept .1 .1 .1 .1 .1 .1 .1 .1 .1 .1 .1 .1 .1 .1 .1 .1 .1 .1 .0
 
 returns-2 : tie.Need-returns-2
 returns-2 c =
@@ -89,7 +89,7 @@ returns-2 c =
     let own-long = c .before .before .before .before .before .before .before .before .before .before .before .before .before .before .before .before .before .before .before .before .before .before .before .before .before .before .before .before .before .before .before .before .own-long in
     let h = (handed (lentOf (args .detectors) (args .observables) (args .edges) (args .edge-u .now) (args .edge-v .now) (args .edge-weight .now) (args .edge-obs .now)) (args .rows .now) (args .shots) (args .width) (args .out .now) (length (args .list .now)) (lengthsOf (length (args .adj-offsets .now)) (length (args .adj .now)) (length (args .tree .now)) (length (args .flags .now)) (length (args .stacks .now)) (length (args .links .now)) (length (args .growth .now)) (length (args .sat .now)))) in
     let yes = checks-by h (own-long .result) Accepted (own-is h (own-long .ensures)) (sym (c .before .before .before .before .before .before .before .before .before .before .before .before .before .before .before .before .before .before .before .before .before .before .before .before .before .before .before .before .before .enum-told .given .1) ∙ c .before .before .before .before .before .before .before .before .before .before .before .before .before .before .before .before .before .before .before .before .before .before .before .before .before .before .before .before .before .before .before .check-call .ensures) in
-    decoded h yes (c .before .before .before .before .before .before .before .before .before .before .before .before .decode-parts .ensures)
+    decoded h yes (c .before .before .before .before .before .before .before .before .before .before .before .before .reset-and-decode-rows .ensures)
 
 pub decode-batch-spec : {M : Type 1} → statement M
 decode-batch-spec =
@@ -101,7 +101,7 @@ decode-batch-spec =
     returns
     enum-told
     tabulate-requires
-    decode-parts-requires
+    reset-and-decode-rows-requires
     same-length
     same-length-2
     same-length-3

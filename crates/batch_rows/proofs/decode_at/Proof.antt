@@ -3,7 +3,7 @@ use Prim.Native.Nat.{_+_, _-_, _*_}
 use mathlib.Core.Path.{_≡_, ap, _∙_}
 use native.Mathlib.Omega.{arith}
 use borrow.Rule.Slice.PartMut.{same-len-mid}
-use Rattle.shot_answer.specs.Shots.{shotOf}
+use Rattle.shot.specs.Shots.{shotOf}
 use Rattle.batch_rows.proofs.Parts.{steps-is, put-is, parts, row-wide, given}
 use borrow.Author.Needs.{needs}
 use Rattle.batch_rows.proofs.decode_at.Statement.{statement}

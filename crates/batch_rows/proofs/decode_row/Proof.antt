@@ -3,10 +3,10 @@ use mathlib.Core.Path.{_≡_, sym, ap, _∙_}
 use mathlib.Core.List.{List}
 use Rattle.steps.specs.Rows.{zeros}
 use Rattle.steps.specs.Shot.{rowLeft}
-use Rattle.shot_answer.specs.Shots.{graphIn, decodeIn}
+use Rattle.shot.specs.Shots.{graphIn, decodeIn}
 use Rattle.steps.specs.Call.{graphOf}
-use Rattle.shots.proofs.Laws.{blank, blank-row}
-use Rattle.shots.proofs.Blank.{none-lit}
+use Rattle.shot.proofs.Decodes.{blank, blank-row}
+use Rattle.shot.proofs.Blank.{none-lit}
 use Rattle.batch_rows.proofs.Parts.{zeroed, given-zeroed}
 use Rattle.batch_rows.proofs.Turns.{places, ready-on}
 use borrow.Author.Needs.{needs}

@@ -6,7 +6,7 @@ use native.Mathlib.Nat.{sub-zero}
 use borrow.Author.Needs.{needs}
 use lib.ListN.{length}
 use Rattle.lists.specs.Lists.{from, below}
-use Rattle.shot_answer.specs.Shots.{graphIn}
+use Rattle.shot.specs.Shots.{graphIn}
 use Rattle.batch_rows.specs.Ready.{Ready}
 use Rattle.batch_rows.specs.Rows.{checkShotsOf, rowsOf}
 use Rattle.batch_rows.proofs.Turns.{end-answer, end-rows, stops, goes-on, given-row}

@@ -16,11 +16,11 @@ Inv-loop starts detector-counts entries kept first-of₀ next-of₀ k₀ first-o
 abbrev μ-loop : tie.MeasureT-loop
 μ-loop starts detector-counts entries kept first-of₀ next-of₀ k₀ first-of next-of k = k
 
-clear-requires : tie.Need-clear-requires Inv-loop μ-loop
-clear-requires c κs = search needs
+fill-u32-requires : tie.Need-fill-u32-requires Inv-loop μ-loop
+fill-u32-requires c κs = search needs
 
 loop-holds : tie.Need-loop-holds Inv-loop μ-loop
-loop-holds c = (omega arith, refl, refl, record { begins = λ d h. ap (λ (l : List ℕ). getD l d 0) (c .before .before .clear .ensures) ∙ getD-replicate (length (c .before .before .before .before .before .before .before .before .before .args .first-of .now)) d nowhere 0 (omega (arith, c .before .before .clear .kept .0)) ∙ sym (from-end (λ i. startsWith d ((detectorsAt (c .before .before .before .before .before .before .before .before .before .args .starts .now) (c .before .before .before .before .before .before .before .before .before .args .detector-counts .now) (c .before .before .before .before .before .before .before .before .before .args .entries .now)) i)) (c .before .before .before .before .before .before .before .before .before .args .kept) (c .before .before .before .before .before .before .before .before .before .args .kept) (omega arith)); linked = λ i d a b. absurd (omega arith) })
+loop-holds c = (omega arith, refl, refl, record { begins = λ d h. ap (λ (l : List ℕ). getD l d 0) (c .before .before .fill-u32 .ensures) ∙ getD-replicate (length (c .before .before .before .before .before .before .before .before .before .args .first-of .now)) d nowhere 0 (omega (arith, c .before .before .fill-u32 .kept .0)) ∙ sym (from-end (λ i. startsWith d ((detectorsAt (c .before .before .before .before .before .before .before .before .before .args .starts .now) (c .before .before .before .before .before .before .before .before .before .args .detector-counts .now) (c .before .before .before .before .before .before .before .before .before .args .entries .now)) i)) (c .before .before .before .before .before .before .before .before .before .args .kept) (c .before .before .before .before .before .before .before .before .before .args .kept) (omega arith)); linked = λ i d a b. absurd (omega arith) })
 
 sub-k : tie.Need-sub-k Inv-loop μ-loop
 sub-k c = search needs
@@ -50,7 +50,7 @@ mul-next-of : tie.Need-mul-next-of Inv-loop μ-loop
 mul-next-of c = record { fits = omega (arith, c .shared-slice-known6 .given (getD (c .before .before .before .before .before .before .before .before .before .before .before .before .before .before .before .args .starts .now) (c .before .before .before .before .before .loop .k - 1) 0)) }
 
 slice-read-next-of : tie.Need-slice-read-next-of Inv-loop μ-loop
-slice-read-next-of c = omega (arith, (first-below (length (c .before .before .before .before .before .before .before .before .before .before .before .before .before .before .before .before .args .first-of .now)) (c .before .before .before .before .before .before .before .before .before .before .before .before .before .before .before .before .args .entries .now) (getD (c .before .before .before .before .before .before .before .before .before .before .before .before .before .before .before .before .args .starts .now) (c .before .before .before .before .before .before .loop .k - 1) 0) (getD (c .before .before .before .before .before .before .before .before .before .before .before .before .before .before .before .before .args .detector-counts .now) (c .before .before .before .before .before .before .loop .k - 1) 0) (c .before .before .before .if1 .taken) (c .before .before .before .before .before .before .before .before .before .before .before .before .before .before .before .before .pre .0 .listed (c .before .before .before .before .before .before .loop .k - 1) (omega arith)) (c .before .before .before .before .before .before .before .before .before .before .before .before .before .before .before .before .pre .0 .checked (c .before .before .before .before .before .before .loop .k - 1) (omega arith))), c .before .before .before .before .before .before .loop .inv .1, c .before .before .before .before .before .before .before .before .before .clear .kept .0)
+slice-read-next-of c = omega (arith, (first-below (length (c .before .before .before .before .before .before .before .before .before .before .before .before .before .before .before .before .args .first-of .now)) (c .before .before .before .before .before .before .before .before .before .before .before .before .before .before .before .before .args .entries .now) (getD (c .before .before .before .before .before .before .before .before .before .before .before .before .before .before .before .before .args .starts .now) (c .before .before .before .before .before .before .loop .k - 1) 0) (getD (c .before .before .before .before .before .before .before .before .before .before .before .before .before .before .before .before .args .detector-counts .now) (c .before .before .before .before .before .before .loop .k - 1) 0) (c .before .before .before .if1 .taken) (c .before .before .before .before .before .before .before .before .before .before .before .before .before .before .before .before .pre .0 .listed (c .before .before .before .before .before .before .loop .k - 1) (omega arith)) (c .before .before .before .before .before .before .before .before .before .before .before .before .before .before .before .before .pre .0 .checked (c .before .before .before .before .before .before .loop .k - 1) (omega arith))), c .before .before .before .before .before .before .loop .inv .1, c .before .before .before .before .before .before .before .before .before .fill-u32 .kept .0)
 
 mul-next-of-2 : tie.Need-mul-next-of-2 Inv-loop μ-loop
 mul-next-of-2 c = search needs
@@ -65,7 +65,7 @@ mul-first-of : tie.Need-mul-first-of Inv-loop μ-loop
 mul-first-of c = record { fits = omega (arith, c .before .shared-slice-known6 .given (getD (c .before .before .before .before .before .before .before .before .before .before .before .before .before .before .before .before .args .starts .now) (c .before .before .before .before .before .before .loop .k - 1) 0)) }
 
 slice-write-first-of : tie.Need-slice-write-first-of Inv-loop μ-loop
-slice-write-first-of c = omega (arith, (first-below (length (c .before .before .before .before .before .before .before .before .before .before .before .before .before .before .before .before .args .first-of .now)) (c .before .before .before .before .before .before .before .before .before .before .before .before .before .before .before .before .args .entries .now) (getD (c .before .before .before .before .before .before .before .before .before .before .before .before .before .before .before .before .args .starts .now) (c .before .before .before .before .before .before .loop .k - 1) 0) (getD (c .before .before .before .before .before .before .before .before .before .before .before .before .before .before .before .before .args .detector-counts .now) (c .before .before .before .before .before .before .loop .k - 1) 0) (c .before .before .before .if1 .taken) (c .before .before .before .before .before .before .before .before .before .before .before .before .before .before .before .before .pre .0 .listed (c .before .before .before .before .before .before .loop .k - 1) (omega arith)) (c .before .before .before .before .before .before .before .before .before .before .before .before .before .before .before .before .pre .0 .checked (c .before .before .before .before .before .before .loop .k - 1) (omega arith))), c .before .before .before .before .before .before .loop .inv .1, c .before .before .before .before .before .before .before .before .before .clear .kept .0)
+slice-write-first-of c = omega (arith, (first-below (length (c .before .before .before .before .before .before .before .before .before .before .before .before .before .before .before .before .args .first-of .now)) (c .before .before .before .before .before .before .before .before .before .before .before .before .before .before .before .before .args .entries .now) (getD (c .before .before .before .before .before .before .before .before .before .before .before .before .before .before .before .before .args .starts .now) (c .before .before .before .before .before .before .loop .k - 1) 0) (getD (c .before .before .before .before .before .before .before .before .before .before .before .before .before .before .before .before .args .detector-counts .now) (c .before .before .before .before .before .before .loop .k - 1) 0) (c .before .before .before .if1 .taken) (c .before .before .before .before .before .before .before .before .before .before .before .before .before .before .before .before .pre .0 .listed (c .before .before .before .before .before .before .loop .k - 1) (omega arith)) (c .before .before .before .before .before .before .before .before .before .before .before .before .before .before .before .before .pre .0 .checked (c .before .before .before .before .before .before .loop .k - 1) (omega arith))), c .before .before .before .before .before .before .loop .inv .1, c .before .before .before .before .before .before .before .before .before .fill-u32 .kept .0)
 
 loop-less : tie.Need-loop-less Inv-loop μ-loop
 loop-less c = search needs
@@ -75,7 +75,7 @@ loop-again c = (
   omega arith,
   simp length-set (c .before .before .before .before .before .before .loop .inv .1),
   simp length-set (c .before .before .before .before .before .before .loop .inv .2),
-  link-one (detectorsAt (c .before .before .before .before .before .before .before .before .before .before .before .before .before .before .before .before .args .starts .now) (c .before .before .before .before .before .before .before .before .before .before .before .before .before .before .before .before .args .detector-counts .now) (c .before .before .before .before .before .before .before .before .before .before .before .before .before .before .before .before .args .entries .now)) (c .before .before .before .before .before .before .before .before .before .before .before .before .before .before .before .before .args .kept) (c .before .before .before .before .before .before .loop .k) (c .before .before .before .before .before .before .loop .first-of) (c .before .before .before .before .before .before .loop .next-of) (c .before .before .before .before .before .loop-test .taken) (c .before .before .before .before .before .before .loop .inv .0) (c .before .before .before .before .before .before .loop .inv .3) (getD (c .before .before .before .before .before .before .before .before .before .before .before .before .before .before .before .before .args .entries .now) (getD (c .before .before .before .before .before .before .before .before .before .before .before .before .before .before .before .before .args .starts .now) (c .before .before .before .before .before .before .loop .k - 1) 0) 0) (omega (arith, (first-below (length (c .before .before .before .before .before .before .before .before .before .before .before .before .before .before .before .before .args .first-of .now)) (c .before .before .before .before .before .before .before .before .before .before .before .before .before .before .before .before .args .entries .now) (getD (c .before .before .before .before .before .before .before .before .before .before .before .before .before .before .before .before .args .starts .now) (c .before .before .before .before .before .before .loop .k - 1) 0) (getD (c .before .before .before .before .before .before .before .before .before .before .before .before .before .before .before .before .args .detector-counts .now) (c .before .before .before .before .before .before .loop .k - 1) 0) (c .before .before .before .if1 .taken) (c .before .before .before .before .before .before .before .before .before .before .before .before .before .before .before .before .pre .0 .listed (c .before .before .before .before .before .before .loop .k - 1) (omega arith)) (c .before .before .before .before .before .before .before .before .before .before .before .before .before .before .before .before .pre .0 .checked (c .before .before .before .before .before .before .loop .k - 1) (omega arith))), c .before .before .before .before .before .before .loop .inv .1, c .before .before .before .before .before .before .before .before .before .clear .kept .0)) (omega (arith, c .before .before .before .before .before .before .before .before .before .before .before .before .before .before .before .before .pre .1, c .before .before .before .before .before .before .loop .inv .2, c .before .before .before .before .before .before .loop .inv .0)) (λ d. starts-is (c .before .before .before .before .before .before .before .before .before .before .before .before .before .before .before .before .args .entries .now) (getD (c .before .before .before .before .before .before .before .before .before .before .before .before .before .before .before .before .args .starts .now) (c .before .before .before .before .before .before .loop .k - 1) 0) (getD (c .before .before .before .before .before .before .before .before .before .before .before .before .before .before .before .before .args .detector-counts .now) (c .before .before .before .before .before .before .loop .k - 1) 0) d (c .before .before .before .if1 .taken) (c .before .before .before .before .before .before .before .before .before .before .before .before .before .before .before .before .pre .0 .listed (c .before .before .before .before .before .before .loop .k - 1) (omega arith))),
+  link-one (detectorsAt (c .before .before .before .before .before .before .before .before .before .before .before .before .before .before .before .before .args .starts .now) (c .before .before .before .before .before .before .before .before .before .before .before .before .before .before .before .before .args .detector-counts .now) (c .before .before .before .before .before .before .before .before .before .before .before .before .before .before .before .before .args .entries .now)) (c .before .before .before .before .before .before .before .before .before .before .before .before .before .before .before .before .args .kept) (c .before .before .before .before .before .before .loop .k) (c .before .before .before .before .before .before .loop .first-of) (c .before .before .before .before .before .before .loop .next-of) (c .before .before .before .before .before .loop-test .taken) (c .before .before .before .before .before .before .loop .inv .0) (c .before .before .before .before .before .before .loop .inv .3) (getD (c .before .before .before .before .before .before .before .before .before .before .before .before .before .before .before .before .args .entries .now) (getD (c .before .before .before .before .before .before .before .before .before .before .before .before .before .before .before .before .args .starts .now) (c .before .before .before .before .before .before .loop .k - 1) 0) 0) (omega (arith, (first-below (length (c .before .before .before .before .before .before .before .before .before .before .before .before .before .before .before .before .args .first-of .now)) (c .before .before .before .before .before .before .before .before .before .before .before .before .before .before .before .before .args .entries .now) (getD (c .before .before .before .before .before .before .before .before .before .before .before .before .before .before .before .before .args .starts .now) (c .before .before .before .before .before .before .loop .k - 1) 0) (getD (c .before .before .before .before .before .before .before .before .before .before .before .before .before .before .before .before .args .detector-counts .now) (c .before .before .before .before .before .before .loop .k - 1) 0) (c .before .before .before .if1 .taken) (c .before .before .before .before .before .before .before .before .before .before .before .before .before .before .before .before .pre .0 .listed (c .before .before .before .before .before .before .loop .k - 1) (omega arith)) (c .before .before .before .before .before .before .before .before .before .before .before .before .before .before .before .before .pre .0 .checked (c .before .before .before .before .before .before .loop .k - 1) (omega arith))), c .before .before .before .before .before .before .loop .inv .1, c .before .before .before .before .before .before .before .before .before .fill-u32 .kept .0)) (omega (arith, c .before .before .before .before .before .before .before .before .before .before .before .before .before .before .before .before .pre .1, c .before .before .before .before .before .before .loop .inv .2, c .before .before .before .before .before .before .loop .inv .0)) (λ d. starts-is (c .before .before .before .before .before .before .before .before .before .before .before .before .before .before .before .before .args .entries .now) (getD (c .before .before .before .before .before .before .before .before .before .before .before .before .before .before .before .before .args .starts .now) (c .before .before .before .before .before .before .loop .k - 1) 0) (getD (c .before .before .before .before .before .before .before .before .before .before .before .before .before .before .before .before .args .detector-counts .now) (c .before .before .before .before .before .before .loop .k - 1) 0) d (c .before .before .before .if1 .taken) (c .before .before .before .before .before .before .before .before .before .before .before .before .before .before .before .before .pre .0 .listed (c .before .before .before .before .before .before .loop .k - 1) (omega arith))),
 )
 
 loop-less-2 : tie.Need-loop-less-2 Inv-loop μ-loop
@@ -102,7 +102,7 @@ index-kept-spec =
     (tie.spec
     Inv-loop
     μ-loop
-    clear-requires
+    fill-u32-requires
     loop-holds
     sub-k
     shared-slice-read-if1

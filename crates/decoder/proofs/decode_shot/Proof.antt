@@ -4,8 +4,8 @@ use native.Mathlib.Omega.{arith}
 use lib.ListN.{length}
 use Rattle.codes.specs.declared.Checked.the-variants.{Accepted, Refused}
 use Rattle.scratch.specs.Scratch.{lengthsOf}
-use Rattle.calls.specs.Call.{lentOf}
-use Rattle.tabled.proofs.Laws.{to-tabulate, longer}
+use Rattle.lent_graph.specs.Call.{lentOf}
+use Rattle.own_slices.proofs.Laws.{to-tabulate, longer}
 use Rattle.decoder.specs.Answer.{handed}
 use Rattle.decoder.proofs.Laws.{own, given}
 use Rattle.decoder.proofs.Answered.{own-is, checked, accepts, refused, blanked, decodes}
@@ -54,8 +54,8 @@ tabulate-requires c κs =
     let o = own h (k .own-long) in
     to-tabulate k (args .adj-offsets .now) (args .adj .now) (o .2 .adj-offsets) (o .2 .adj)
 
-decode-parts-requires : tie.Need-decode-parts-requires
-decode-parts-requires c κs =
+reset-and-decode-requires : tie.Need-reset-and-decode-requires
+reset-and-decode-requires c κs =
     let args = c .before .before .before .before .before .before .before .before .before .before .before .before .before .before .before .before .before .before .before .before .before .before .before .before .before .before .before .before .before .before .before .before .args in
     let own-long = c .before .before .before .before .before .before .before .before .before .before .before .before .before .before .before .before .before .before .before .before .before .own-long in
     let tabulate = c .before .before .before .before .before .before .before .before .before .before .before .before .before .tabulate in
@@ -69,10 +69,10 @@ answer-of-requires : tie.Need-answer-of-requires
 answer-of-requires c κs = search needs
 
 same-length : tie.Need-same-length
-same-length c = c .before .before .before .before .before .before .before .before .before .before .before .before .before .decode-parts .kept .1 .1 .1 .1 .1 .1 .1 .1 .1 .1 .0
+same-length c = c .before .before .before .before .before .before .before .before .before .before .before .before .before .reset-and-decode .kept .1 .1 .1 .1 .1 .1 .1 .1 .1 .1 .0
 
 same-length-2 : tie.Need-same-length-2
-same-length-2 c = c .before .before .before .before .before .before .before .before .before .before .before .before .before .decode-parts .kept .1 .1 .1 .1 .1 .1 .1 .1 .1 .1 .1 .0
+same-length-2 c = c .before .before .before .before .before .before .before .before .before .before .before .before .before .reset-and-decode .kept .1 .1 .1 .1 .1 .1 .1 .1 .1 .1 .1 .0
 
 same-length-3 : tie.Need-same-length-3
 same-length-3 c = c .before .before .before .before .before .before .before .before .before .before .before .before .before .before .before .before .before .before .before .before .before .before .before .before .before .before .before .tabulate .kept .1 .1 .1 .1 .0
@@ -81,31 +81,31 @@ same-length-4 : tie.Need-same-length-4
 same-length-4 c = c .before .before .before .before .before .before .before .before .before .before .before .before .before .before .before .before .before .before .before .before .before .before .before .before .before .before .before .tabulate .kept .1 .1 .1 .1 .1 .0
 
 same-length-5 : tie.Need-same-length-5
-same-length-5 c = c .before .before .before .before .before .before .before .before .before .before .before .before .before .decode-parts .kept .1 .1 .1 .1 .1 .1 .1 .1 .1 .1 .1 .1 .0
+same-length-5 c = c .before .before .before .before .before .before .before .before .before .before .before .before .before .reset-and-decode .kept .1 .1 .1 .1 .1 .1 .1 .1 .1 .1 .1 .1 .0
 
 same-length-6 : tie.Need-same-length-6
-same-length-6 c = c .before .before .before .before .before .before .before .before .before .before .before .before .before .decode-parts .kept .1 .1 .1 .1 .1 .1 .1 .1 .1 .1 .1 .1 .1 .0
+same-length-6 c = c .before .before .before .before .before .before .before .before .before .before .before .before .before .reset-and-decode .kept .1 .1 .1 .1 .1 .1 .1 .1 .1 .1 .1 .1 .1 .0
 
 same-length-7 : tie.Need-same-length-7
-same-length-7 c = c .before .before .before .before .before .before .before .before .before .before .before .before .before .decode-parts .kept .1 .1 .1 .1 .1 .1 .1 .1 .1 .1 .1 .1 .1 .1 .0
+same-length-7 c = c .before .before .before .before .before .before .before .before .before .before .before .before .before .reset-and-decode .kept .1 .1 .1 .1 .1 .1 .1 .1 .1 .1 .1 .1 .1 .1 .0
 
 same-length-8 : tie.Need-same-length-8
-same-length-8 c = c .before .before .before .before .before .before .before .before .before .before .before .before .before .decode-parts .kept .1 .1 .1 .1 .1 .1 .1 .1 .1 .1 .1 .1 .1 .1 .1 .0
+same-length-8 c = c .before .before .before .before .before .before .before .before .before .before .before .before .before .reset-and-decode .kept .1 .1 .1 .1 .1 .1 .1 .1 .1 .1 .1 .1 .1 .1 .1 .0
 
 same-length-9 : tie.Need-same-length-9
-same-length-9 c = c .before .before .before .before .before .before .before .before .before .before .before .before .before .decode-parts .kept .1 .1 .1 .1 .1 .1 .1 .1 .1 .1 .1 .1 .1 .1 .1 .1 .0
+same-length-9 c = c .before .before .before .before .before .before .before .before .before .before .before .before .before .reset-and-decode .kept .1 .1 .1 .1 .1 .1 .1 .1 .1 .1 .1 .1 .1 .1 .1 .1 .0
 
 same-length-10 : tie.Need-same-length-10
-same-length-10 c = c .before .before .before .before .before .before .before .before .before .before .before .before .before .decode-parts .kept .1 .1 .1 .1 .1 .1 .1 .1 .1 .1 .1 .1 .1 .1 .1 .1 .1 .0
+same-length-10 c = c .before .before .before .before .before .before .before .before .before .before .before .before .before .reset-and-decode .kept .1 .1 .1 .1 .1 .1 .1 .1 .1 .1 .1 .1 .1 .1 .1 .1 .1 .0
 
 returns-3 : tie.Need-returns-3
 returns-3 c =
     let args = c .before .before .before .before .before .before .before .before .before .before .before .before .before .before .before .before .before .before .before .before .before .before .before .before .before .before .before .before .before .before .before .before .before .before .before .before .before .before .before .before .before .before .before .before .before .before .args in
     let own-long = c .before .before .before .before .before .before .before .before .before .before .before .before .before .before .before .before .before .before .before .before .before .before .before .before .before .before .before .before .before .before .before .before .before .before .before .own-long in
-    let decode-parts = c .before .before .before .before .before .before .before .before .before .before .before .before .before .decode-parts in
+    let reset-and-decode = c .before .before .before .before .before .before .before .before .before .before .before .before .before .reset-and-decode in
     let h = (handed (lentOf (args .detectors) (args .observables) (args .edges) (args .edge-u .now) (args .edge-v .now) (args .edge-weight .now) (args .edge-obs .now)) (args .shot .now) (args .width) (args .row .now) (args .list .now) (lengthsOf (length (args .adj-offsets .now)) (length (args .adj .now)) (length (args .tree .now)) (length (args .flags .now)) (length (args .stacks .now)) (length (args .links .now)) (length (args .growth .now)) (length (args .sat .now)))) in
     let yes = checked h (own-long .result) Accepted (own-is h (own-long .ensures)) (sym (c .before .before .before .before .before .before .before .before .before .before .before .before .before .before .before .before .before .before .before .before .before .before .before .before .before .before .before .before .before .before .before .before .enum-told .given .1) ∙ c .before .before .before .before .before .before .before .before .before .before .before .before .before .before .before .before .before .before .before .before .before .before .before .before .before .before .before .before .before .before .before .before .before .before .check-call .ensures) in
-    decodes h yes (c .answer-of .ensures) (decode-parts .ensures .0) (decode-parts .ensures .1 .0) (decode-parts .ensures .1 .1)
+    decodes h yes (c .answer-of .ensures) (reset-and-decode .ensures .0) (reset-and-decode .ensures .1 .0) (reset-and-decode .ensures .1 .1)
 
 pub decode-shot-spec : {M : Type 1} → statement M
 decode-shot-spec =
@@ -119,7 +119,7 @@ decode-shot-spec =
     is-blank-requires
     returns-2
     tabulate-requires
-    decode-parts-requires
+    reset-and-decode-requires
     answer-of-requires
     same-length
     same-length-2

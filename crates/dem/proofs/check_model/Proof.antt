@@ -1,7 +1,7 @@
 -- `dem::check_model`: limits, tables, mechanisms.
 use mathlib.Core.Path.{sym, _∙_}
 use Rattle.codes.specs.declared.Refusal.the-variants.{Short}
-use Rattle.dem.proofs.Accepted.{counts-within, unless-accepted}
+use Rattle.codes.proofs.Checks.{counts-within, unless-accepted}
 use Rattle.dem.specs.Tables.{tablesHold}
 use Rattle.dem.specs.Positions.{tables}
 use borrow.Author.Needs.{needs}

@@ -1,7 +1,7 @@
 -- `demand3::mark_answer` meets its contract: the marker's promise of the list handed over, or a refusal and no row.
 use mathlib.Core.Path.{refl}
 use native.Mathlib.Omega.{arith}
-use Rattle.calls.specs.Call.{lentOf}
+use Rattle.lent_graph.specs.Call.{lentOf}
 use Rattle.demand3.proofs.Verified.{follows-decoded, follows-stuck, follows-refused}
 use borrow.Author.Needs.{needs}
 use Rattle.demand3.proofs.mark_answer.Statement.{statement}

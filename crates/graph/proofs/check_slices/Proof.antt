@@ -2,10 +2,9 @@
 use mathlib.Core.Path.{_≡_, sym, _∙_}
 use borrow.Author.Tests.{not-true, not-false}
 use Rattle.dem.specs.Positions.{tables}
-use Rattle.dem.proofs.Accepted.{counts-within}
-use Rattle.graph.specs.Tables.{slices}
-use Rattle.graph.specs.Outcome.{slicesLong}
-use Rattle.graph.proofs.Answers.{over-limit, short-model, by-slices}
+use Rattle.codes.proofs.Checks.{counts-within}
+use Rattle.edges.specs.Tables.{slices}
+use Rattle.graph.proofs.Answers.{over-limit, model-refused, tables-short, scratch-short, all-long}
 use borrow.Author.Needs.{needs}
 use Rattle.graph.proofs.check_slices.Statement.{statement}
 use Rattle.graph.proofs.check_slices.Tie as tie
@@ -40,7 +39,7 @@ returns-2 c =
     let args = c .before .before .before .before .before .before .before .before .before .before .before .before .before .before .before .before .before .before .before .before .before .args in
     let t = (tables (args .probability .now) (args .detector-counts .now) (args .observable-counts .now) (args .component-counts .now) (args .component-detectors .now) (args .component-observables .now) (args .entries .now)) in
     let out = (slices (args .edge-u .now) (args .edge-v .now) (args .edge-weight .now) (args .edge-obs .now) (args .edge-p .now)) in
-    short-model (args .detectors) (args .observables) (args .mechanisms) t out (args .first .now) (args .next .now) _ (c .before .before .before .before .before .before .check-counts .ensures) (c .before .before .before .before .enum-told .given .1) _ (sym (c .before .before .before .check-tables .ensures) ∙ c .before .held .given .1)
+    model-refused (args .detectors) (args .observables) (args .mechanisms) t out (args .first .now) (args .next .now) _ (c .before .before .before .before .before .before .check-counts .ensures) (c .before .before .before .before .enum-told .given .1) _ (c .before .before .before .check-tables .ensures) _ (c .before .held .given .1)
 
 enum-told-2 : tie.Need-enum-told-2
 enum-told-2 c = search needs
@@ -52,34 +51,28 @@ tables-long-requires c κs =
     (within .1, within .2)
 
 returns-3 : tie.Need-returns-3
-unfolding slicesLong
 returns-3 c =
     let args = c .before .before .before .before .before .before .before .before .before .before .before .before .before .before .before .before .before .before .before .before .before .before .args in
     let t = (tables (args .probability .now) (args .detector-counts .now) (args .observable-counts .now) (args .component-counts .now) (args .component-detectors .now) (args .component-observables .now) (args .entries .now)) in
     let out = (slices (args .edge-u .now) (args .edge-v .now) (args .edge-weight .now) (args .edge-obs .now) (args .edge-p .now)) in
-    let rest = (by-slices (args .detectors) (args .observables) (args .mechanisms) t out (args .first .now) (args .next .now) _ (c .before .before .before .before .before .before .before .check-counts .ensures) (c .before .before .before .before .before .enum-told .given .1) (sym (c .before .before .before .before .check-tables .ensures) ∙ c .before .before .enum-told2 .given .1)) in
-    sym (sym rest ∙ simp (sym (c .before .tables-long .ensures) ∙ not-true _ (c .if1 .taken)))
+    tables-short (args .detectors) (args .observables) (args .mechanisms) t out (args .first .now) (args .next .now) _ (c .before .before .before .before .before .before .before .check-counts .ensures) (c .before .before .before .before .before .enum-told .given .1) _ (c .before .before .before .before .check-tables .ensures) (c .before .before .enum-told2 .given .1) _ (c .before .tables-long .ensures) (not-true _ (c .if1 .taken))
 
 scratch-long-requires : tie.Need-scratch-long-requires
 scratch-long-requires c κs = search needs
 
 returns-4 : tie.Need-returns-4
-unfolding slicesLong
 returns-4 c =
     let args = c .before .before .before .before .before .before .before .before .before .before .before .before .before .before .before .before .before .before .before .before .before .before .before .before .args in
     let t = (tables (args .probability .now) (args .detector-counts .now) (args .observable-counts .now) (args .component-counts .now) (args .component-detectors .now) (args .component-observables .now) (args .entries .now)) in
     let out = (slices (args .edge-u .now) (args .edge-v .now) (args .edge-weight .now) (args .edge-obs .now) (args .edge-p .now)) in
-    let rest = (by-slices (args .detectors) (args .observables) (args .mechanisms) t out (args .first .now) (args .next .now) _ (c .before .before .before .before .before .before .before .before .before .check-counts .ensures) (c .before .before .before .before .before .before .before .enum-told .given .1) (sym (c .before .before .before .before .before .before .check-tables .ensures) ∙ c .before .before .before .before .enum-told2 .given .1)) in
-    sym (sym rest ∙ simp (sym (c .before .before .before .tables-long .ensures) ∙ not-false _ (c .before .before .if1 .left), sym (c .before .scratch-long .ensures) ∙ not-true _ (c .if2 .taken)))
+    scratch-short (args .detectors) (args .observables) (args .mechanisms) t out (args .first .now) (args .next .now) _ (c .before .before .before .before .before .before .before .before .before .check-counts .ensures) (c .before .before .before .before .before .before .before .enum-told .given .1) _ (c .before .before .before .before .before .before .check-tables .ensures) (c .before .before .before .before .enum-told2 .given .1) _ (c .before .before .before .tables-long .ensures) (not-false _ (c .before .before .if1 .left)) _ (c .before .scratch-long .ensures) (not-true _ (c .if2 .taken))
 
 returns-5 : tie.Need-returns-5
-unfolding slicesLong
 returns-5 c =
     let args = c .before .before .before .before .before .before .before .before .before .before .before .before .before .before .before .before .before .before .before .before .before .before .before .before .args in
     let t = (tables (args .probability .now) (args .detector-counts .now) (args .observable-counts .now) (args .component-counts .now) (args .component-detectors .now) (args .component-observables .now) (args .entries .now)) in
     let out = (slices (args .edge-u .now) (args .edge-v .now) (args .edge-weight .now) (args .edge-obs .now) (args .edge-p .now)) in
-    let rest = (by-slices (args .detectors) (args .observables) (args .mechanisms) t out (args .first .now) (args .next .now) _ (c .before .before .before .before .before .before .before .before .before .check-counts .ensures) (c .before .before .before .before .before .before .before .enum-told .given .1) (sym (c .before .before .before .before .before .before .check-tables .ensures) ∙ c .before .before .before .before .enum-told2 .given .1)) in
-    sym (sym rest ∙ simp (sym (c .before .before .before .tables-long .ensures) ∙ not-false _ (c .before .before .if1 .left), sym (c .before .scratch-long .ensures) ∙ not-false _ (c .if2 .left)))
+    all-long (args .detectors) (args .observables) (args .mechanisms) t out (args .first .now) (args .next .now) _ (c .before .before .before .before .before .before .before .before .before .check-counts .ensures) (c .before .before .before .before .before .before .before .enum-told .given .1) _ (c .before .before .before .before .before .before .check-tables .ensures) (c .before .before .before .before .enum-told2 .given .1) _ (c .before .before .before .tables-long .ensures) (not-false _ (c .before .before .if1 .left)) _ (c .before .scratch-long .ensures) (not-false _ (c .if2 .left))
 
 pub check-slices-spec : {M : Type 1} → statement M
 check-slices-spec =

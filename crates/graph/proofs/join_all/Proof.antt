@@ -6,7 +6,7 @@ use borrow.Author.Needs.{needs}
 use lib.ListN.{length}
 use Rattle.dem.specs.Positions.{tables, headOf, placeOf}
 use Rattle.dem.proofs.Positions.{reached-of, inside-of, past-inside, place-next}
-use Rattle.graph.specs.Tables.{Slices, slices}
+use Rattle.edges.specs.Tables.{Slices, slices}
 use Rattle.graph.proofs.Going.{Going, Alike, held, room, going-first, joined-next, many-few, stopped, went, ended}
 use Rattle.graph.proofs.join_all.Statement.{statement}
 use Rattle.graph.proofs.join_all.Tie as tie
@@ -17,15 +17,15 @@ Inv-loop detectors observables mechanisms probability detector-counts observable
 abbrev μ-loop : tie.MeasureT-loop
 μ-loop detectors observables mechanisms probability detector-counts observable-counts component-counts component-detectors component-observables entries edge-u₀ edge-v₀ edge-weight₀ edge-obs₀ edge-p₀ first₀ next₀ place₀ count₀ i₀ edge-u edge-v edge-weight edge-obs edge-p first next place count i = mechanisms - i
 
-fill-u32-requires : tie.Need-fill-u32-requires Inv-loop μ-loop
-fill-u32-requires c κs = search needs
+no-chains-requires : tie.Need-no-chains-requires Inv-loop μ-loop
+no-chains-requires c κs = search needs
 
 loop-holds : tie.Need-loop-holds Inv-loop μ-loop
 loop-holds c =
     let args = c .before .before .before .before .before .before .before .before .before .before .before .before .before .before .before .before .before .before .args in
     let t = (tables (args .probability .now) (args .detector-counts .now) (args .observable-counts .now) (args .component-counts .now) (args .component-detectors .now) (args .component-observables .now) (args .entries .now)) in
     let was = (slices (args .edge-u .now) (args .edge-v .now) (args .edge-weight .now) (args .edge-obs .now) (args .edge-p .now)) in
-    (going-first (args .detectors) (args .observables) t (args .mechanisms) was (length (args .first .now)) _ (args .next .now) (c .before .before .fill-u32 .ensures), record { ends = refl; others = refl; weights = refl; rows = refl; probabilities = refl; starts = refl; chains = refl })
+    (going-first (args .detectors) (args .observables) t (args .mechanisms) was (length (args .first .now)) _ (args .next .now) (c .before .before .no-chains .ensures), record { ends = refl; others = refl; weights = refl; rows = refl; probabilities = refl; starts = refl; chains = refl })
 
 head-requires : tie.Need-head-requires Inv-loop μ-loop
 head-requires c κs =
@@ -46,7 +46,7 @@ join-requires c κs =
     let going = (c .before .before .before .before .before .before .before .before .before .loop .inv .0) in
     let alike = (c .before .before .before .before .before .before .before .before .before .loop .inv .1) in
     let few = (many-few (c .before .before .before .before .before .before .before .before .before .before .before .before .before .before .before .before .before .before .before .before .before .before .before .before .before .before .before .before .args .detectors) (c .before .before .before .before .before .before .before .before .before .before .before .before .before .before .before .before .before .before .before .before .before .before .before .before .before .before .before .before .args .observables) t (c .before .before .before .before .before .before .before .before .before .before .before .before .before .before .before .before .before .before .before .before .before .before .before .before .before .before .before .before .args .mechanisms) (c .before .before .before .before .before .before .before .before .before .loop .i) (c .before .before .before .before .before .before .before .before .before .loop .count) was out (c .before .before .before .before .before .before .before .before .before .loop .place) (c .before .before .before .before .before .before .before .before .before .loop .first) (c .before .before .before .before .before .before .before .before .before .loop .next) going) in
-    (rw (c .before .before .before .before .before .before .before .head .ensures, going .at) inside, omega (arith, long .starts, c .before .before .before .before .before .before .before .before .before .before .before .before .fill-u32 .kept .0, alike .starts), room (c .before .before .before .before .before .before .before .before .before .before .before .before .before .before .before .before .before .before .before .before .before .before .before .before .before .before .before .before .args .detectors) (c .before .before .before .before .before .before .before .before .before .before .before .before .before .before .before .before .before .before .before .before .before .before .before .before .before .before .before .before .args .observables) (c .before .before .before .before .before .before .before .before .before .before .before .before .before .before .before .before .before .before .before .before .before .before .before .before .before .before .before .before .args .mechanisms) (c .before .before .before .before .before .before .before .before .before .loop .count) t was out (c .before .before .before .before .before .before .before .before .before .before .before .before .before .before .before .before .before .before .before .before .before .before .before .before .before .before .before .before .args .first .now) _ (c .before .before .before .before .before .before .before .before .before .loop .first) (c .before .before .before .before .before .before .before .before .before .before .before .before .before .before .before .before .before .before .before .before .before .before .before .before .before .before .before .before .args .next .now) (c .before .before .before .before .before .before .before .before .before .loop .next) long alike (omega (arith, few, c .before .before .before .before .before .before .before .before .loop-test .taken)), going .chained)
+    (rw (c .before .before .before .before .before .before .before .head .ensures, going .at) inside, omega (arith, long .starts, c .before .before .before .before .before .before .before .before .before .before .before .before .no-chains .kept .0, alike .starts), room (c .before .before .before .before .before .before .before .before .before .before .before .before .before .before .before .before .before .before .before .before .before .before .before .before .before .before .before .before .args .detectors) (c .before .before .before .before .before .before .before .before .before .before .before .before .before .before .before .before .before .before .before .before .before .before .before .before .before .before .before .before .args .observables) (c .before .before .before .before .before .before .before .before .before .before .before .before .before .before .before .before .before .before .before .before .before .before .before .before .before .before .before .before .args .mechanisms) (c .before .before .before .before .before .before .before .before .before .loop .count) t was out (c .before .before .before .before .before .before .before .before .before .before .before .before .before .before .before .before .before .before .before .before .before .before .before .before .before .before .before .before .args .first .now) _ (c .before .before .before .before .before .before .before .before .before .loop .first) (c .before .before .before .before .before .before .before .before .before .before .before .before .before .before .before .before .before .before .before .before .before .before .before .before .before .before .before .before .args .next .now) (c .before .before .before .before .before .before .before .before .before .loop .next) long alike (omega (arith, few, c .before .before .before .before .before .before .before .before .loop-test .taken)), going .chained)
 
 enum-known-joined : tie.Need-enum-known-joined Inv-loop μ-loop
 enum-known-joined c = search needs
@@ -82,7 +82,7 @@ same-length-5 c =
 same-length-6 : tie.Need-same-length-6 Inv-loop μ-loop
 same-length-6 c =
     let alike = (c .before .before .before .before .before .before .before .before .before .before .before .before .before .before .before .before .before .before .before .before .before .before .before .before .before .before .loop .inv .1) in
-    c .before .before .before .before .before .before .before .before .before .before .before .before .before .before .before .before .join .kept .1 .1 .1 .1 .1 .1 .1 .1 .1 .1 .1 .1 .1 .1 .0 ∙ alike .starts ∙ c .before .before .before .before .before .before .before .before .before .before .before .before .before .before .before .before .before .before .before .before .before .before .before .before .before .before .before .before .before .fill-u32 .kept .0
+    c .before .before .before .before .before .before .before .before .before .before .before .before .before .before .before .before .join .kept .1 .1 .1 .1 .1 .1 .1 .1 .1 .1 .1 .1 .1 .1 .0 ∙ alike .starts ∙ c .before .before .before .before .before .before .before .before .before .before .before .before .before .before .before .before .before .before .before .before .before .before .before .before .before .before .before .before .before .no-chains .kept .0
 
 same-length-7 : tie.Need-same-length-7 Inv-loop μ-loop
 same-length-7 c =
@@ -164,7 +164,7 @@ same-length-12 c =
 same-length-13 : tie.Need-same-length-13 Inv-loop μ-loop
 same-length-13 c =
     let alike = (c .before .loop .inv .1) in
-    alike .starts ∙ c .before .before .before .before .fill-u32 .kept .0
+    alike .starts ∙ c .before .before .before .before .no-chains .kept .0
 
 same-length-14 : tie.Need-same-length-14 Inv-loop μ-loop
 same-length-14 c =
@@ -186,7 +186,7 @@ join-all-spec =
     (tie.spec
     Inv-loop
     μ-loop
-    fill-u32-requires
+    no-chains-requires
     loop-holds
     head-requires
     join-requires

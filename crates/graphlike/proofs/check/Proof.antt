@@ -6,7 +6,7 @@ use Rattle.codes.specs.declared.Refusal.the-variants.{Short}
 use Rattle.dem.specs.declared.Place.{Place}
 use Rattle.dem.specs.Tables.{columnsHold, listsHold, tablesHold}
 use Rattle.dem.specs.Positions.{tables}
-use Rattle.dem.proofs.Accepted.{counts-within, unless-accepted}
+use Rattle.codes.proofs.Checks.{counts-within, unless-accepted}
 use Rattle.dem.proofs.Laws as dem
 use Rattle.graphlike.proofs.Answers.{over-limit, short-model, by-lengths}
 use borrow.Author.Needs.{needs}

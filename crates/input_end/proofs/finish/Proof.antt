@@ -5,7 +5,7 @@ use mathlib.Core.List.{[]}
 use native.Mathlib.Omega.{arith}
 use lib.ListN.{length, length-take}
 use borrow.Rule.Slice.PartMut.{same-len-mid}
-use Rattle.graph.specs.Tables.{slices}
+use Rattle.edges.specs.Tables.{slices}
 use Rattle.reader.specs.Columns.{columns}
 use Rattle.input_end.proofs.Ends.{kept-failures, end-only, after-long, end-refused, end-few, end-failures, end-room, end-sum, end-long, end-on}
 use borrow.Author.Needs.{needs}

@@ -2,7 +2,7 @@
 use mathlib.Core.Path.{_≡_, refl, sym, ap, _∙_}
 use native.Mathlib.Omega.{arith}
 use lib.ListN.{length}
-use Rattle.calls.specs.Call.{lentOf}
+use Rattle.lent_graph.specs.Call.{lentOf}
 use Rattle.marker.proofs.Marks.{part-long, checked-by, refused, rooms, ready, answers, untouched, in-table, written, marked}
 use Rattle.marker.proofs.Verdicts.{differs-not-pass, refused-not-pass}
 use borrow.Author.Needs.{needs}

@@ -8,8 +8,8 @@ use borrow.Author.Needs.{needs}
 use Rattle.marking.proofs.judge.Statement.{statement}
 use Rattle.marking.proofs.judge.Tie as tie
 
-clear-requires : tie.Need-clear-requires
-clear-requires c κs = search needs
+fill-u64-requires : tie.Need-fill-u64-requires
+fill-u64-requires c κs = search needs
 
 copy-requires : tie.Need-copy-requires
 copy-requires c κs = search needs
@@ -17,7 +17,7 @@ copy-requires c κs = search needs
 meet-requires : tie.Need-meet-requires
 meet-requires c κs =
     let args = c .before .before .before .before .before .before .before .before .before .before .before .before .before .before .before .before .args in
-    unmet (args .detectors) (args .edges) (args .edge-u .now) (args .edge-v .now) (args .shot .now) (args .list .now) (args .marks .now) (args .wrong .now) (c .before .before .before .before .before .before .before .before .before .before .before .before .before .before .before .before .pre) _ _ (c .before .before .before .before .before .before .before .before .clear .ensures) (c .before .before .before .before .copy .ensures)
+    unmet (args .detectors) (args .edges) (args .edge-u .now) (args .edge-v .now) (args .shot .now) (args .list .now) (args .marks .now) (args .wrong .now) (c .before .before .before .before .before .before .before .before .before .before .before .before .before .before .before .before .pre) _ _ (c .before .before .before .before .before .before .before .before .fill-u64 .ensures) (c .before .before .before .before .copy .ensures)
 
 same-length : tie.Need-same-length
 same-length c = search needs
@@ -73,7 +73,7 @@ pub judge-spec : {M : Type 1} → statement M
 judge-spec =
     tie.close
     (tie.spec
-    clear-requires
+    fill-u64-requires
     copy-requires
     meet-requires
     same-length

@@ -16,14 +16,14 @@ Inv-loop edge-obs list row₀ w left₀ row left = (left ≤ length list) × (w 
 abbrev μ-loop : tie.MeasureT-loop
 μ-loop edge-obs list row₀ w left₀ row left = left
 
-clear-requires : tie.Need-clear-requires Inv-loop μ-loop
-clear-requires c κs = search needs
+fill-u64-requires : tie.Need-fill-u64-requires Inv-loop μ-loop
+fill-u64-requires c κs = search needs
 
 loop-holds : tie.Need-loop-holds Inv-loop μ-loop
 unfolding xorRows
 loop-holds c =
     let args = c .before .before .before .before .before .before .before .args in
-    let clear = c .before .before .clear in
+    let clear = c .before .before .fill-u64 in
     (search needs, refl, rw (drop-length (args .list .now)) (clear .ensures ∙ ap (λ (k : ℕ). replicate {A = ℕ} k 0) (sym (ap length (clear .ensures) ∙ length-replicate (length (args .row .now)) 0))), refl)
 
 sub-left : tie.Need-sub-left Inv-loop μ-loop
@@ -41,21 +41,21 @@ cast-e c = omega (arith, c .shared-slice-known3 .given (c .before .before .loop 
 mul-from : tie.Need-mul-from Inv-loop μ-loop
 mul-from c =
     let args = c .before .before .before .before .before .before .before .before .before .before .args in
-    let clear = c .before .before .before .before .before .clear in
+    let clear = c .before .before .before .before .before .fill-u64 in
     let loop = c .before .before .loop in
     omega (arith, (in-table (length (args .row .now)) (length (clear .last .0)) (args .edge-obs .now) (args .list .now) (loop .left) (c .before .before .before .before .before .before .before .before .before .before .pre) (ap length (clear .ensures) ∙ length-replicate (length (args .row .now)) 0) (c .before .loop-test .taken) (loop .inv .0)))
 
 add-to : tie.Need-add-to Inv-loop μ-loop
 add-to c =
     let args = c .before .before .before .before .before .before .before .before .before .before .args in
-    let clear = c .before .before .before .before .before .clear in
+    let clear = c .before .before .before .before .before .fill-u64 in
     let loop = c .before .before .loop in
     omega (arith, (in-table (length (args .row .now)) (length (clear .last .0)) (args .edge-obs .now) (args .list .now) (loop .left) (c .before .before .before .before .before .before .before .before .before .before .pre) (ap length (clear .ensures) ∙ length-replicate (length (args .row .now)) 0) (c .before .loop-test .taken) (loop .inv .0)))
 
 mul-xor-into : tie.Need-mul-xor-into Inv-loop μ-loop
 mul-xor-into c =
     let args = c .before .before .before .before .before .before .before .before .before .before .before .args in
-    let clear = c .before .before .before .before .before .before .clear in
+    let clear = c .before .before .before .before .before .before .fill-u64 in
     let loop = c .before .before .before .loop in
     omega (arith, (in-table (length (args .row .now)) (length (clear .last .0)) (args .edge-obs .now) (args .list .now) (loop .left) (c .before .before .before .before .before .before .before .before .before .before .before .pre) (ap length (clear .ensures) ∙ length-replicate (length (args .row .now)) 0) (c .before .before .loop-test .taken) (loop .inv .0)))
 
@@ -68,7 +68,7 @@ part-xor-into-start c = search needs
 part-xor-into-end : tie.Need-part-xor-into-end Inv-loop μ-loop
 part-xor-into-end c =
     let args = c .before .before .before .before .before .before .before .before .before .before .before .args in
-    let clear = c .before .before .before .before .before .before .clear in
+    let clear = c .before .before .before .before .before .before .fill-u64 in
     let loop = c .before .before .before .loop in
     omega (arith, (in-table (length (args .row .now)) (length (clear .last .0)) (args .edge-obs .now) (args .list .now) (loop .left) (c .before .before .before .before .before .before .before .before .before .before .before .pre) (ap length (clear .ensures) ∙ length-replicate (length (args .row .now)) 0) (c .before .before .loop-test .taken) (loop .inv .0)))
 
@@ -80,7 +80,7 @@ loop-less c = search needs
 
 loop-again : tie.Need-loop-again Inv-loop μ-loop
 loop-again c =
-    let clear = c .before .before .before .before .before .before .before .before .before .before .clear in
+    let clear = c .before .before .before .before .before .before .before .before .before .before .fill-u64 in
     let args = c .before .before .before .before .before .before .before .before .before .before .before .before .before .before .before .args in
     let loop = c .before .before .before .before .before .before .before .loop in
     let xor-into = c .before .before .xor-into in
@@ -88,13 +88,13 @@ loop-again c =
     (search needs, refl, turn, ap length turn ∙ length-xors (length (clear .last .0)) (args .edge-obs .now) (drop (loop .left - 1) (args .list .now)))
 
 same-length : tie.Need-same-length Inv-loop μ-loop
-same-length c = c .before .loop .inv .3 ∙ (ap length (c .before .before .before .before .clear .ensures) ∙ length-replicate (length (c .before .before .before .before .before .before .before .before .before .args .row .now)) 0)
+same-length c = c .before .loop .inv .3 ∙ (ap length (c .before .before .before .before .fill-u64 .ensures) ∙ length-replicate (length (c .before .before .before .before .before .before .before .before .before .args .row .now)) 0)
 
 returns : tie.Need-returns Inv-loop μ-loop
 returns c =
     let args = c .before .before .before .before .before .before .before .before .before .args in
     let z : c .before .loop .left ≡ 0 = omega arith in
-    rw z at (c .before .loop .inv .2) ∙ ap (λ (k : ℕ). xorRows k (args .edge-obs .now) (args .list .now)) (ap length (c .before .before .before .before .clear .ensures) ∙ length-replicate (length (args .row .now)) 0)
+    rw z at (c .before .loop .inv .2) ∙ ap (λ (k : ℕ). xorRows k (args .edge-obs .now) (args .list .now)) (ap length (c .before .before .before .before .fill-u64 .ensures) ∙ length-replicate (length (args .row .now)) 0)
 
 pub write-row-spec : {M : Type 1} → statement M
 write-row-spec =
@@ -102,7 +102,7 @@ write-row-spec =
     (tie.spec
     Inv-loop
     μ-loop
-    clear-requires
+    fill-u64-requires
     loop-holds
     sub-left
     mul-e

@@ -4,8 +4,8 @@ use native.Mathlib.Omega.{arith}
 use lib.ListN.{length}
 use Rattle.codes.specs.declared.Checked.the-variants.{Accepted, Refused}
 use Rattle.scratch.specs.Scratch.{lengthsOf}
-use Rattle.calls.specs.Call.{lentOf}
-use Rattle.tabled.proofs.Laws.{to-tabulate, longer}
+use Rattle.lent_graph.specs.Call.{lentOf}
+use Rattle.own_slices.proofs.Laws.{to-tabulate, longer}
 use Rattle.batch.specs.Batch.{handed}
 use Rattle.batch.proofs.Calls.{own-is, accepts, scratch, given-rows}
 use Rattle.rate.specs.Rate.{compared}
@@ -47,8 +47,8 @@ tabulate-requires c κs =
     let s = scratch h b in
     to-tabulate k (args .adj-offsets .now) (args .adj .now) (s .adj-offsets) (s .adj)
 
-decode-parts-requires : tie.Need-decode-parts-requires
-decode-parts-requires c κs =
+reset-and-decode-rows-requires : tie.Need-reset-and-decode-rows-requires
+reset-and-decode-rows-requires c κs =
     let args = c .before .before .before .before .before .before .before .before .before .before .before .before .before .before .before .before .before .before .before .before .before .before .before .before .before .before .before .before .before .before .before .args in
     let own-long = c .before .before .before .before .before .before .before .before .before .before .before .before .before .before .before .before .before .before .before .own-long in
     let tabulate = c .before .before .before .before .before .before .before .before .before .before .before .before .before .tabulate in
@@ -64,17 +64,17 @@ rate-answer-requires : tie.Need-rate-answer-requires
 rate-answer-requires c κs =
     let args = c .before .before .before .before .before .before .before .before .before .before .before .before .before .before .before .before .before .before .before .before .before .before .before .before .before .before .before .before .before .before .before .before .before .before .before .before .before .before .before .before .before .before .before .before .before .args in
     let own-long = c .before .before .before .before .before .before .before .before .before .before .before .before .before .before .before .before .before .before .before .before .before .before .before .before .before .before .before .before .before .before .before .before .before .own-long in
-    let decode-parts = c .before .before .before .before .before .before .before .before .before .before .before .before .before .decode-parts in
+    let reset-and-decode-rows = c .before .before .before .before .before .before .before .before .before .before .before .before .before .reset-and-decode-rows in
     let h = (handed (lentOf (args .detectors) (args .observables) (args .edges) (args .edge-u .now) (args .edge-v .now) (args .edge-weight .now) (args .edge-obs .now)) (args .rows .now) (args .shots) (args .width) (args .out .now) (length (args .list .now)) (lengthsOf (length (args .adj-offsets .now)) (length (args .adj .now)) (length (args .tree .now)) (length (args .flags .now)) (length (args .stacks .now)) (length (args .links .now)) (length (args .growth .now)) (length (args .sat .now)))) in
     let call = compared h (args .truth .now) (args .true-shots) (args .true-width) in
     let yes = checks-by call (own-long .result) Accepted (own-is h (own-long .ensures)) (sym (c .before .before .before .before .before .before .before .before .before .before .before .before .before .before .before .before .before .before .before .before .before .before .before .before .before .before .before .before .before .before .enum-told .given .1) ∙ c .before .before .before .before .before .before .before .before .before .before .before .before .before .before .before .before .before .before .before .before .before .before .before .before .before .before .before .before .before .before .before .before .check-rate .ensures) in
-    comparable call yes (decode-parts .ensures) (decode-parts .kept .1 .1 .1 .1 .1 .1 .1 .1 .1 .1 .1 .0)
+    comparable call yes (reset-and-decode-rows .ensures) (reset-and-decode-rows .kept .1 .1 .1 .1 .1 .1 .1 .1 .1 .1 .1 .0)
 
 same-length : tie.Need-same-length
-same-length c = c .before .before .before .before .before .before .before .before .before .before .before .before .before .before .decode-parts .kept .1 .1 .1 .1 .1 .1 .1 .1 .1 .1 .1 .0
+same-length c = c .before .before .before .before .before .before .before .before .before .before .before .before .before .before .reset-and-decode-rows .kept .1 .1 .1 .1 .1 .1 .1 .1 .1 .1 .1 .0
 
 same-length-2 : tie.Need-same-length-2
-same-length-2 c = c .before .before .before .before .before .before .before .before .before .before .before .before .before .before .decode-parts .kept .1 .1 .1 .1 .1 .1 .1 .1 .1 .1 .1 .1 .0
+same-length-2 c = c .before .before .before .before .before .before .before .before .before .before .before .before .before .before .reset-and-decode-rows .kept .1 .1 .1 .1 .1 .1 .1 .1 .1 .1 .1 .1 .0
 
 same-length-3 : tie.Need-same-length-3
 same-length-3 c = c .before .before .before .before .before .before .before .before .before .before .before .before .before .before .before .before .before .before .before .before .before .before .before .before .before .before .before .before .tabulate .kept .1 .1 .1 .1 .0
@@ -83,22 +83,22 @@ same-length-4 : tie.Need-same-length-4
 same-length-4 c = c .before .before .before .before .before .before .before .before .before .before .before .before .before .before .before .before .before .before .before .before .before .before .before .before .before .before .before .before .tabulate .kept .1 .1 .1 .1 .1 .0
 
 same-length-5 : tie.Need-same-length-5
-same-length-5 c = c .before .before .before .before .before .before .before .before .before .before .before .before .before .before .decode-parts .kept .1 .1 .1 .1 .1 .1 .1 .1 .1 .1 .1 .1 .1 .0
+same-length-5 c = c .before .before .before .before .before .before .before .before .before .before .before .before .before .before .reset-and-decode-rows .kept .1 .1 .1 .1 .1 .1 .1 .1 .1 .1 .1 .1 .1 .0
 
 same-length-6 : tie.Need-same-length-6
-same-length-6 c = c .before .before .before .before .before .before .before .before .before .before .before .before .before .before .decode-parts .kept .1 .1 .1 .1 .1 .1 .1 .1 .1 .1 .1 .1 .1 .1 .0
+same-length-6 c = c .before .before .before .before .before .before .before .before .before .before .before .before .before .before .reset-and-decode-rows .kept .1 .1 .1 .1 .1 .1 .1 .1 .1 .1 .1 .1 .1 .1 .0
 
 same-length-7 : tie.Need-same-length-7
-same-length-7 c = c .before .before .before .before .before .before .before .before .before .before .before .before .before .before .decode-parts .kept .1 .1 .1 .1 .1 .1 .1 .1 .1 .1 .1 .1 .1 .1 .1 .0
+same-length-7 c = c .before .before .before .before .before .before .before .before .before .before .before .before .before .before .reset-and-decode-rows .kept .1 .1 .1 .1 .1 .1 .1 .1 .1 .1 .1 .1 .1 .1 .1 .0
 
 same-length-8 : tie.Need-same-length-8
-same-length-8 c = c .before .before .before .before .before .before .before .before .before .before .before .before .before .before .decode-parts .kept .1 .1 .1 .1 .1 .1 .1 .1 .1 .1 .1 .1 .1 .1 .1 .1 .0
+same-length-8 c = c .before .before .before .before .before .before .before .before .before .before .before .before .before .before .reset-and-decode-rows .kept .1 .1 .1 .1 .1 .1 .1 .1 .1 .1 .1 .1 .1 .1 .1 .1 .0
 
 same-length-9 : tie.Need-same-length-9
-same-length-9 c = c .before .before .before .before .before .before .before .before .before .before .before .before .before .before .decode-parts .kept .1 .1 .1 .1 .1 .1 .1 .1 .1 .1 .1 .1 .1 .1 .1 .1 .1 .0
+same-length-9 c = c .before .before .before .before .before .before .before .before .before .before .before .before .before .before .reset-and-decode-rows .kept .1 .1 .1 .1 .1 .1 .1 .1 .1 .1 .1 .1 .1 .1 .1 .1 .1 .0
 
 same-length-10 : tie.Need-same-length-10
-same-length-10 c = c .before .before .before .before .before .before .before .before .before .before .before .before .before .before .decode-parts .kept .1 .1 .1 .1 .1 .1 .1 .1 .1 .1 .1 .1 .1 .1 .1 .1 .1 .1 .0
+same-length-10 c = c .before .before .before .before .before .before .before .before .before .before .before .before .before .before .reset-and-decode-rows .kept .1 .1 .1 .1 .1 .1 .1 .1 .1 .1 .1 .1 .1 .1 .1 .1 .1 .1 .0
 
 returns-2 : tie.Need-returns-2
 returns-2 c =
@@ -107,7 +107,7 @@ returns-2 c =
     let h = (handed (lentOf (args .detectors) (args .observables) (args .edges) (args .edge-u .now) (args .edge-v .now) (args .edge-weight .now) (args .edge-obs .now)) (args .rows .now) (args .shots) (args .width) (args .out .now) (length (args .list .now)) (lengthsOf (length (args .adj-offsets .now)) (length (args .adj .now)) (length (args .tree .now)) (length (args .flags .now)) (length (args .stacks .now)) (length (args .links .now)) (length (args .growth .now)) (length (args .sat .now)))) in
     let call = compared h (args .truth .now) (args .true-shots) (args .true-width) in
     let yes = checks-by call (own-long .result) Accepted (own-is h (own-long .ensures)) (sym (c .before .before .before .before .before .before .before .before .before .before .before .before .before .before .before .before .before .before .before .before .before .before .before .before .before .before .before .before .before .before .before .enum-told .given .1) ∙ c .before .before .before .before .before .before .before .before .before .before .before .before .before .before .before .before .before .before .before .before .before .before .before .before .before .before .before .before .before .before .before .before .before .check-rate .ensures) in
-    rated call yes (c .before .before .before .before .before .before .before .before .before .before .before .before .before .before .decode-parts .ensures) (c .rate-answer .ensures)
+    rated call yes (c .before .before .before .before .before .before .before .before .before .before .before .before .before .before .reset-and-decode-rows .ensures) (c .rate-answer .ensures)
 
 pub logical-error-rate-spec : {M : Type 1} → statement M
 logical-error-rate-spec =
@@ -119,7 +119,7 @@ logical-error-rate-spec =
     returns
     enum-told
     tabulate-requires
-    decode-parts-requires
+    reset-and-decode-rows-requires
     rate-answer-requires
     same-length
     same-length-2

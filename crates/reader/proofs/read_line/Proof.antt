@@ -47,31 +47,31 @@ returns-3 c =
     refused-read (args .line .now) (args .n) (columns (args .probability-bits .now) (args .detector-counts .now) (args .observable-counts .now) (args .component-counts .now) (args .component-detectors .now) (args .component-observables .now) (args .entries .now) (args .row .now) (args .truth .now)) (sym (c .before .before .before .before .before .before .before .over .ensures) ∙ c .before .before .before .before .before .before .if1 .left) (sym (long-enough .ensures) ∙ not-false (long-enough .result) (c .before .before .before .before .if2 .left)) (c .before .answer .given .0 .0) (sym (c .before .answer .given .1) ∙ c .before .before .before .next-line .ensures)
 
 same-length : tie.Need-same-length
-same-length c = search needs
+same-length c = c .before .before .before .before .before .before .before .before .before .before .before .before .before .before .before .before .before .before .store .kept .1 .1 .0
 
 same-length-2 : tie.Need-same-length-2
-same-length-2 c = search needs
+same-length-2 c = c .before .before .before .before .before .before .before .before .before .before .before .before .before .before .before .before .before .before .store .kept .1 .1 .1 .0
 
 same-length-3 : tie.Need-same-length-3
-same-length-3 c = search needs
+same-length-3 c = c .before .before .before .before .before .before .before .before .before .before .before .before .before .before .before .before .before .before .store .kept .1 .1 .1 .1 .0
 
 same-length-4 : tie.Need-same-length-4
-same-length-4 c = search needs
+same-length-4 c = c .before .before .before .before .before .before .before .before .before .before .before .before .before .before .before .before .before .before .store .kept .1 .1 .1 .1 .1 .0
 
 same-length-5 : tie.Need-same-length-5
-same-length-5 c = search needs
+same-length-5 c = c .before .before .before .before .before .before .before .before .before .before .before .before .before .before .before .before .before .before .store .kept .1 .1 .1 .1 .1 .1 .0
 
 same-length-6 : tie.Need-same-length-6
-same-length-6 c = search needs
+same-length-6 c = c .before .before .before .before .before .before .before .before .before .before .before .before .before .before .before .before .before .before .store .kept .1 .1 .1 .1 .1 .1 .1 .0
 
 same-length-7 : tie.Need-same-length-7
-same-length-7 c = search needs
+same-length-7 c = c .before .before .before .before .before .before .before .before .before .before .before .before .before .before .before .before .before .before .store .kept .1 .1 .1 .1 .1 .1 .1 .1 .0
 
 same-length-8 : tie.Need-same-length-8
-same-length-8 c = search needs
+same-length-8 c = c .before .before .before .before .before .before .before .before .before .before .before .before .before .before .before .before .before .before .store .kept .1 .1 .1 .1 .1 .1 .1 .1 .1 .0
 
 same-length-9 : tie.Need-same-length-9
-same-length-9 c = search needs
+same-length-9 c = c .before .before .before .before .before .before .before .before .before .before .before .before .before .before .before .before .before .before .store .kept .1 .1 .1 .1 .1 .1 .1 .1 .1 .1 .0
 
 returns-4 : tie.Need-returns-4
 returns-4 c =

@@ -25,19 +25,19 @@ store-mechanism-requires c κs =
     (m .0, omega (arith, m .1, room .bits), omega (arith, m .1, room .detector-counts), omega (arith, m .1, room .observable-counts), omega (arith, m .1, room .component-counts), omega (arith, m .2, room .entries))
 
 same-length : tie.Need-same-length
-same-length c = search needs
+same-length c = c .before .before .before .before .before .before .before .before .before .before .store-mechanism .kept .1 .1 .0
 
 same-length-2 : tie.Need-same-length-2
-same-length-2 c = search needs
+same-length-2 c = c .before .before .before .before .before .before .before .before .before .before .store-mechanism .kept .1 .1 .1 .0
 
 same-length-3 : tie.Need-same-length-3
-same-length-3 c = search needs
+same-length-3 c = c .before .before .before .before .before .before .before .before .before .before .store-mechanism .kept .1 .1 .1 .1 .0
 
 same-length-4 : tie.Need-same-length-4
-same-length-4 c = search needs
+same-length-4 c = c .before .before .before .before .before .before .before .before .before .before .store-mechanism .kept .1 .1 .1 .1 .1 .0
 
 same-length-5 : tie.Need-same-length-5
-same-length-5 c = search needs
+same-length-5 c = c .before .before .before .before .before .before .before .before .before .before .store-mechanism .kept .1 .1 .1 .1 .1 .1 .0
 
 returns : tie.Need-returns
 unfolding storedFrame
@@ -57,16 +57,16 @@ store-component-requires c κs =
     (p .0, p .1, omega (arith, p .2, room .component-counts), omega (arith, p .3, room .component-detectors), omega (arith, p .3, room .component-observables), omega (arith, p .4, room .entries))
 
 same-length-6 : tie.Need-same-length-6
-same-length-6 c = search needs
+same-length-6 c = c .before .before .before .before .before .before .before .before .store-component .kept .1 .1 .0
 
 same-length-7 : tie.Need-same-length-7
-same-length-7 c = search needs
+same-length-7 c = c .before .before .before .before .before .before .before .before .store-component .kept .1 .1 .1 .0
 
 same-length-8 : tie.Need-same-length-8
-same-length-8 c = search needs
+same-length-8 c = c .before .before .before .before .before .before .before .before .store-component .kept .1 .1 .1 .1 .0
 
 same-length-9 : tie.Need-same-length-9
-same-length-9 c = search needs
+same-length-9 c = c .before .before .before .before .before .before .before .before .store-component .kept .1 .1 .1 .1 .1 .0
 
 returns-2 : tie.Need-returns-2
 unfolding storedFrame
@@ -89,7 +89,7 @@ read-u64s-requires c κs =
     (omega (arith, c .before .words .ensures, w .0), omega (arith, c .before .words .ensures, w .1, room .row))
 
 same-length-10 : tie.Need-same-length-10
-same-length-10 c = search needs
+same-length-10 c = c .before .before .read-u64s .kept .1 .1 .1 .0
 
 returns-3 : tie.Need-returns-3
 unfolding storedFrame
@@ -112,7 +112,7 @@ read-u64s-requires-2 c κs =
     (omega (arith, c .before .words2 .ensures, o .0), omega (arith, c .before .words2 .ensures, o .1, room .truth))
 
 same-length-11 : tie.Need-same-length-11
-same-length-11 c = search needs
+same-length-11 c = c .before .before .read-u64s2 .kept .1 .1 .1 .0
 
 returns-4 : tie.Need-returns-4
 unfolding storedFrame

@@ -1,7 +1,7 @@
 -- `session::answer_line`: the line read, then answered by its kind.
 use native.Mathlib.Omega.{arith}
 use mathlib.Core.List.{[]}
-use Rattle.graph.specs.Tables.{slices}
+use Rattle.edges.specs.Tables.{slices}
 use Rattle.reader.specs.Columns.{columns}
 use Rattle.session.proofs.Lines.{line-some, line-refused, line-next}
 use borrow.Author.Needs.{needs}

@@ -2,7 +2,7 @@
 use mathlib.Core.Path.{refl}
 use mathlib.Core.List.{[]}
 use native.Mathlib.Omega.{arith}
-use Rattle.graph.specs.Tables.{slices}
+use Rattle.edges.specs.Tables.{slices}
 use Rattle.session.proofs.Models.{model-few, model-on, model-refused}
 use borrow.Author.Needs.{needs}
 use Rattle.session.proofs.answer_model.Statement.{statement}

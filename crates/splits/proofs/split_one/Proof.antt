@@ -8,7 +8,7 @@ use lib.ListN.{length, take, drop}
 use borrow.Author.Tests.{not-true, not-false}
 use Rattle.dem.specs.Model.{Symptom}
 use Rattle.dem.specs.Cover.{firstCover}
-use Rattle.suggested.specs.Last.{symptomIn}
+use Rattle.last_equal.specs.Last.{symptomIn}
 use Rattle.suggested.specs.Held.{placesOf}
 use Rattle.splits.specs.Ready.{countsSuggest, Covered}
 use Rattle.splits.proofs.Ways.{kept-same, kept-ready, span, coverable, few-components, counts-are, suggested, by-components, by-cover, after-now, after-full, after-none, after-cover}
@@ -63,22 +63,22 @@ enum-told : tie.Need-enum-told
 enum-told c = search needs
 
 same-length : tie.Need-same-length
-same-length c = search needs
+same-length c = c .before .before .before .before .before .before .before .before .before .before .before .before .before .before .add-components .kept .1 .1 .1 .1 .1 .1 .1 .1 .0
 
 same-length-2 : tie.Need-same-length-2
-same-length-2 c = search needs
+same-length-2 c = c .before .before .before .before .before .before .before .before .before .before .before .before .before .before .add-components .kept .1 .1 .1 .1 .1 .1 .1 .1 .1 .0
 
 same-length-3 : tie.Need-same-length-3
-same-length-3 c = search needs
+same-length-3 c = c .before .before .before .before .before .before .before .before .before .before .before .before .before .before .add-components .kept .1 .1 .1 .1 .1 .1 .1 .1 .1 .1 .0
 
 same-length-4 : tie.Need-same-length-4
-same-length-4 c = search needs
+same-length-4 c = c .before .before .before .before .before .before .before .before .before .before .before .before .before .before .add-components .kept .1 .1 .1 .1 .1 .1 .1 .1 .1 .1 .1 .0
 
 same-length-5 : tie.Need-same-length-5
-same-length-5 c = search needs
+same-length-5 c = c .before .before .before .before .before .before .before .before .before .before .before .before .before .before .add-components .kept .1 .1 .1 .1 .1 .1 .1 .1 .1 .1 .1 .1 .0
 
 same-length-6 : tie.Need-same-length-6
-same-length-6 c = search needs
+same-length-6 c = c .before .before .before .before .before .before .before .before .before .before .before .before .before .before .add-components .kept .1 .1 .1 .1 .1 .1 .1 .1 .1 .1 .1 .1 .1 .0
 
 returns : tie.Need-returns
 returns c =
@@ -88,22 +88,22 @@ returns c =
     λ ms was ks h r f. after-full was (args .entries .now) _ _ _ _ _ _ _ _ (add-components .result) (by-components (length (args .last-of .now)) (args .head) (args .place) (args .component-detectors .now) (args .component-observables .now) (args .entries .now) (pre .0) (placesOf (args .room)) ks (args .i) ms ((counts-are (length (args .last-of .now)) (args .head) (args .place) (args .component-detectors .now) (args .component-observables .now) (args .entries .now) (pre .0) ∙ ap (λ (k : ℕ). countsSuggest (take k (drop (args .place .component) (args .component-detectors .now)))) (sym (add-sub-cancel-left (args .place .component) (args .head .components))) ∙ sym (c .before .before .before .before .before .before .before .before .before .before .before .before .before .before .before .before .before .before .before .before .before .before .before .before .before .before .is-suggested .ensures)) ∙ c .before .before .before .before .before .before .before .before .before .before .before .before .before .before .before .before .before .before .before .before .before .before .before .before .before .if1 .taken)) (add-components .ensures ms was h) (c .enum-told .given .1)
 
 same-length-7 : tie.Need-same-length-7
-same-length-7 c = search needs
+same-length-7 c = c .before .before .before .before .before .before .before .before .before .before .before .before .before .before .before .add-components .kept .1 .1 .1 .1 .1 .1 .1 .1 .0
 
 same-length-8 : tie.Need-same-length-8
-same-length-8 c = search needs
+same-length-8 c = c .before .before .before .before .before .before .before .before .before .before .before .before .before .before .before .add-components .kept .1 .1 .1 .1 .1 .1 .1 .1 .1 .0
 
 same-length-9 : tie.Need-same-length-9
-same-length-9 c = search needs
+same-length-9 c = c .before .before .before .before .before .before .before .before .before .before .before .before .before .before .before .add-components .kept .1 .1 .1 .1 .1 .1 .1 .1 .1 .1 .0
 
 same-length-10 : tie.Need-same-length-10
-same-length-10 c = search needs
+same-length-10 c = c .before .before .before .before .before .before .before .before .before .before .before .before .before .before .before .add-components .kept .1 .1 .1 .1 .1 .1 .1 .1 .1 .1 .1 .0
 
 same-length-11 : tie.Need-same-length-11
-same-length-11 c = search needs
+same-length-11 c = c .before .before .before .before .before .before .before .before .before .before .before .before .before .before .before .add-components .kept .1 .1 .1 .1 .1 .1 .1 .1 .1 .1 .1 .1 .0
 
 same-length-12 : tie.Need-same-length-12
-same-length-12 c = search needs
+same-length-12 c = c .before .before .before .before .before .before .before .before .before .before .before .before .before .before .before .add-components .kept .1 .1 .1 .1 .1 .1 .1 .1 .1 .1 .1 .1 .1 .0
 
 returns-2 : tie.Need-returns-2
 returns-2 c =
@@ -119,31 +119,31 @@ add-cover-requires c κs =
     (rw (pre .1 .wide) (coverable (length (args .last-of .now)) (args .head) (args .place) (args .component-detectors .now) (args .component-observables .now) (args .entries .now) (pre .0)), kept-ready (pre .1 .ms) (pre .1 .was) (pre .1 .ks) (args .kept) (args .size) (args .entries .now) (args .first-of .now) (args .next-of .now) (args .starts .now) (args .detector-counts .now) (args .observable-counts .now) (args .probability .now) (args .last-of .now) (args .before .now) (args .numbers .now) (args .masks .now) (args .words0 .now) (args .words1 .now) (args .earlier .now) (pre .1 .holds) (pre .1 .ready) (pre .1 .front) (pre .1 .wide))
 
 same-length-13 : tie.Need-same-length-13
-same-length-13 c = search needs
+same-length-13 c = refl
 
 same-length-14 : tie.Need-same-length-14
-same-length-14 c = search needs
+same-length-14 c = refl
 
 same-length-15 : tie.Need-same-length-15
-same-length-15 c = search needs
+same-length-15 c = refl
 
 same-length-16 : tie.Need-same-length-16
-same-length-16 c = search needs
+same-length-16 c = c .before .before .before .before .before .before .before .before .before .before .before .before .before .add-cover .kept .1 .1 .1 .1 .1 .1 .1 .1 .1 .1 .1 .1 .1 .1 .0
 
 same-length-17 : tie.Need-same-length-17
-same-length-17 c = search needs
+same-length-17 c = c .before .before .before .before .before .before .before .before .before .before .before .before .before .add-cover .kept .1 .1 .1 .1 .1 .1 .1 .1 .1 .0
 
 same-length-18 : tie.Need-same-length-18
-same-length-18 c = search needs
+same-length-18 c = c .before .before .before .before .before .before .before .before .before .before .before .before .before .add-cover .kept .1 .1 .1 .1 .1 .1 .1 .1 .1 .1 .0
 
 same-length-19 : tie.Need-same-length-19
-same-length-19 c = search needs
+same-length-19 c = c .before .before .before .before .before .before .before .before .before .before .before .before .before .add-cover .kept .1 .1 .1 .1 .1 .1 .1 .1 .1 .1 .1 .0
 
 same-length-20 : tie.Need-same-length-20
-same-length-20 c = search needs
+same-length-20 c = c .before .before .before .before .before .before .before .before .before .before .before .before .before .add-cover .kept .1 .1 .1 .1 .1 .1 .1 .1 .1 .1 .1 .1 .0
 
 same-length-21 : tie.Need-same-length-21
-same-length-21 c = search needs
+same-length-21 c = c .before .before .before .before .before .before .before .before .before .before .before .before .before .add-cover .kept .1 .1 .1 .1 .1 .1 .1 .1 .1 .1 .1 .1 .1 .0
 
 returns-3 : tie.Need-returns-3
 returns-3 c =
@@ -154,31 +154,31 @@ returns-3 c =
     (by-cover (length (args .last-of .now)) (args .head) (args .place) (args .component-detectors .now) (args .component-observables .now) (args .entries .now) (pre .0) (placesOf (args .room)) ks (args .i) ms ((counts-are (length (args .last-of .now)) (args .head) (args .place) (args .component-detectors .now) (args .component-observables .now) (args .entries .now) (pre .0) ∙ ap (λ (k : ℕ). countsSuggest (take k (drop (args .place .component) (args .component-detectors .now)))) (sym (add-sub-cancel-left (args .place .component) (args .head .components))) ∙ sym (c .before .before .before .before .before .before .before .before .before .before .before .before .before .before .before .before .before .before .before .before .before .before .before .before .is-suggested .ensures)) ∙ c .before .before .before .before .before .before .before .before .before .before .before .before .before .before .before .before .before .before .before .before .before .before .before .if1 .left)) (subst (λ (l : List Symptom). Covered (firstCover l (symptomIn (args .entries .now) (span (length (args .last-of .now)) (args .head) (args .place) (args .component-detectors .now) (args .component-observables .now) (args .entries .now) (pre .0)))) (args .head .probability) (args .probability .now) (add-cover .result) (add-cover .last .1 .1 .1 .1 .1 .1 .1 .1 .1 .1 .1 .1 .1 .1 .0)) (kept-same ms was ks (args .kept) (args .size) (args .entries .now) (args .first-of .now) (args .next-of .now) (args .starts .now) (args .detector-counts .now) (args .observable-counts .now) (args .probability .now) (args .last-of .now) (args .before .now) (args .numbers .now) (args .masks .now) (args .words0 .now) (args .words1 .now) (args .earlier .now) h r f) (add-cover .ensures)) (not-true (add-cover .result) (c .if2 .taken))
 
 same-length-22 : tie.Need-same-length-22
-same-length-22 c = search needs
+same-length-22 c = refl
 
 same-length-23 : tie.Need-same-length-23
-same-length-23 c = search needs
+same-length-23 c = refl
 
 same-length-24 : tie.Need-same-length-24
-same-length-24 c = search needs
+same-length-24 c = refl
 
 same-length-25 : tie.Need-same-length-25
-same-length-25 c = search needs
+same-length-25 c = c .before .before .before .before .before .before .before .before .before .before .before .before .before .add-cover .kept .1 .1 .1 .1 .1 .1 .1 .1 .1 .1 .1 .1 .1 .1 .0
 
 same-length-26 : tie.Need-same-length-26
-same-length-26 c = search needs
+same-length-26 c = c .before .before .before .before .before .before .before .before .before .before .before .before .before .add-cover .kept .1 .1 .1 .1 .1 .1 .1 .1 .1 .0
 
 same-length-27 : tie.Need-same-length-27
-same-length-27 c = search needs
+same-length-27 c = c .before .before .before .before .before .before .before .before .before .before .before .before .before .add-cover .kept .1 .1 .1 .1 .1 .1 .1 .1 .1 .1 .0
 
 same-length-28 : tie.Need-same-length-28
-same-length-28 c = search needs
+same-length-28 c = c .before .before .before .before .before .before .before .before .before .before .before .before .before .add-cover .kept .1 .1 .1 .1 .1 .1 .1 .1 .1 .1 .1 .0
 
 same-length-29 : tie.Need-same-length-29
-same-length-29 c = search needs
+same-length-29 c = c .before .before .before .before .before .before .before .before .before .before .before .before .before .add-cover .kept .1 .1 .1 .1 .1 .1 .1 .1 .1 .1 .1 .1 .0
 
 same-length-30 : tie.Need-same-length-30
-same-length-30 c = search needs
+same-length-30 c = c .before .before .before .before .before .before .before .before .before .before .before .before .before .add-cover .kept .1 .1 .1 .1 .1 .1 .1 .1 .1 .1 .1 .1 .1 .0
 
 returns-4 : tie.Need-returns-4
 returns-4 c =

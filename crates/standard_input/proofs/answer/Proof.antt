@@ -4,9 +4,9 @@ use mathlib.Core.Path.{_≡_, refl, sym, _∙_}
 use mathlib.Core.List.{[]}
 use native.Mathlib.Omega.{arith}
 use lib.ListN.{length, take}
-use Rattle.graph.specs.Tables.{slices}
+use Rattle.edges.specs.Tables.{slices}
 use Rattle.reader.specs.Columns.{columns}
-use Rattle.whole_input.proofs.Lengths.{sizes-made}
+use Rattle.stream.proofs.Begins.{sizes-made}
 use borrow.Author.Needs.{needs}
 use Rattle.standard_input.proofs.answer.Statement.{statement}
 use Rattle.standard_input.proofs.answer.Tie as tie

@@ -6,7 +6,7 @@ use native.Mathlib.Omega.{arith}
 use lib.ListN.{length, take}
 use borrow.Rule.Slice.PartMut.{same-len-mid}
 use borrow.Author.Needs.{needs}
-use Rattle.graph.specs.Tables.{slices}
+use Rattle.edges.specs.Tables.{slices}
 use Rattle.reader.specs.Columns.{columns}
 use Rattle.standard_input.specs.Ready.{Ready}
 use Rattle.standard_input.proofs.Turns.{start-ready}

@@ -2,7 +2,7 @@
 use Prim.Native.Nat.{ℕ, _+_}
 use mathlib.Core.List.{[]}
 use native.Mathlib.Omega.{arith}
-use Rattle.graph.specs.Tables.{slices}
+use Rattle.edges.specs.Tables.{slices}
 use Rattle.reader.specs.Columns.{columns}
 use Rattle.stream.proofs.Wholes.{sizes-all, room-left, on-fits, whole-on, ended-fits, whole-ended}
 use borrow.Author.Needs.{needs}

@@ -6,7 +6,7 @@ use mathlib.Core.Logic.{inl}
 use native.Mathlib.Omega.{arith}
 use lib.ListN.{length}
 use borrow.Author.Needs.{needs}
-use Rattle.graph.specs.Tables.{slices}
+use Rattle.edges.specs.Tables.{slices}
 use Rattle.reader.specs.Columns.{columns}
 use Rattle.stream.specs.declared.Fed.{Fed}
 use Rattle.stream.specs.Fed.{Feeds, Further}

@@ -5,7 +5,7 @@ use mathlib.Core.Bool.{true}
 use native.Mathlib.Omega.{arith}
 use lib.ListN.{length}
 use borrow.Author.Needs.{needs}
-use Rattle.line_laws.specs.Laws.{unended}
+use Rattle.frames.specs.LineLaws.{unended}
 use Rattle.stream.specs.Fed.{between}
 use Rattle.stream.proofs.Blocks.{unended-none, unended-next}
 use Rattle.stream.proofs.line_end.Statement.{statement}

@@ -4,7 +4,7 @@ use mathlib.Core.Path.{ap}
 use native.Mathlib.Omega.{arith}
 use lib.ListN.{length}
 use Rattle.codes.specs.declared.Refusal.the-variants.{Frame}
-use Rattle.last_line.specs.Last.{refusalText}
+use Rattle.replies.specs.Last.{refusalText}
 use Rattle.stream.specs.declared.Fed.the-variants as fed
 use Rattle.stream.proofs.Blocks.{appended}
 use borrow.Author.Needs.{needs}

@@ -5,7 +5,7 @@ use native.Mathlib.Omega.{arith}
 use lib.ListN.{length, set}
 use lib.Ieee.{Float, ofBits}
 use Rattle.cover.specs.Kept.{detectorsAt}
-use Rattle.suggested.proofs.Chain.{chain-same}
+use Rattle.last_equal.proofs.Chain.{chain-same}
 use Rattle.suggested.proofs.Appending.{more-detectors, detectors-before}
 use borrow.Author.Needs.{needs}
 use Rattle.suggested.proofs.append.Statement.{statement}
@@ -57,10 +57,10 @@ same-length-4 : tie.Need-same-length-4
 same-length-4 c = search needs
 
 same-length-5 : tie.Need-same-length-5
-same-length-5 c = search needs
+same-length-5 c = c .before .before .before .before .link .kept .1 .1 .1 .1 .0
 
 same-length-6 : tie.Need-same-length-6
-same-length-6 c = search needs
+same-length-6 c = c .before .before .before .before .link .kept .1 .1 .1 .1 .1 .0
 
 returns : tie.Need-returns
 unfolding ofBits

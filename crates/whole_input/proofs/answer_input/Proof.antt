@@ -1,7 +1,7 @@
 -- `whole_input::answer_input`: the tables are long enough.
 use mathlib.Core.Path.{refl, sym}
 use native.Mathlib.Omega.{arith}
-use Rattle.whole_input.proofs.Lengths.{sizes-made}
+use Rattle.stream.proofs.Begins.{sizes-made}
 use borrow.Author.Needs.{needs}
 use Rattle.whole_input.proofs.answer_input.Statement.{statement}
 use Rattle.whole_input.proofs.answer_input.Tie as tie

@@ -5,7 +5,7 @@ use mathlib.Core.List.{[]}
 use native.Mathlib.Omega.{arith}
 use lib.ListN.{length}
 use borrow.Author.Needs.{needs}
-use Rattle.graph.specs.Tables.{slices}
+use Rattle.edges.specs.Tables.{slices}
 use Rattle.reader.specs.Columns.{columns}
 use Rattle.stream.specs.declared.Place.{Place}
 use Rattle.whole_input.specs.Whole.{Filled}

@@ -1,0 +1,4 @@
+pub mod Compile
+pub mod Chains
+pub mod Tables
+pub mod Cases

@@ -1,0 +1,2 @@
+pub mod FirstStuck
+pub mod Shut

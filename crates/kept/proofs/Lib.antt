@@ -1,0 +1,4 @@
+pub mod Copying
+pub mod Kept
+pub mod Sums
+pub mod Written

@@ -1,0 +1,4 @@
+pub mod Accepts
+pub mod Checks
+pub mod Edges
+pub mod Laws

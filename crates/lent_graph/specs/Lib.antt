@@ -1,0 +1,4 @@
+pub mod Accepts
+pub mod Call
+pub mod Laws
+pub mod Lent

@@ -1,4 +1,0 @@
-pub mod Long
-pub mod Words
-pub mod Cut
-pub mod Proved

@@ -1,1 +1,0 @@
-// Laws of lines alone; no code.

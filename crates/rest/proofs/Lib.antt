@@ -1,0 +1,4 @@
+pub mod Cleaned
+pub mod CleanRows
+pub mod Cuts
+pub mod Rows

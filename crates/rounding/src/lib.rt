@@ -1,1 +1,0 @@
-// Facts on rounding, in proofs/. There is no code here.

@@ -1,0 +1,6 @@
+-- What the contracts of the shot decoder cite.
+pub mod Begin
+pub mod Blank
+pub mod Longer
+pub mod Rows
+pub mod Shots

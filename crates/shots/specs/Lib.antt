@@ -1,2 +1,0 @@
-pub mod Longer
-pub mod Blank

@@ -1,0 +1,4 @@
+pub mod Copies
+pub mod Grows
+pub mod Start
+pub mod Turn
