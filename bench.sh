@@ -25,8 +25,17 @@ count() {
 if [ ! -x target/bin/bench ]; then
   all=$(count bench)
   echo "bench.sh: once only, \`bench\` is proved before it runs: $all crates, some minutes on two processors" >&2
-  RT_JOBS=${RT_JOBS:-4} rt check bench | awk -v all="$all" '
-    /^rt: [a-z0-9_]+ proved/ { printf "bench.sh: %d of %d crates left\n", all - ++done, all > "/dev/stderr" }
-    /NOT PROVED|FAILED/ { print > "/dev/stderr" }'
+  RT_JOBS=${RT_JOBS:-4} rt check bench | {
+    left=$all
+    while IFS= read -r line; do
+      case $line in
+        "rt: "*" NOT PROVED"* | "rt: FAILED"*) echo "$line" >&2 ;;
+        "rt: "*" proved"*)
+          left=$((left - 1))
+          echo "bench.sh: $left of $all crates left" >&2
+          ;;
+      esac
+    done
+  }
 fi
 exec target/bin/bench
