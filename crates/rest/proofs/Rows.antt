@@ -9,7 +9,7 @@ use mathlib.Core.Bool.{false}
 use lib.ListN.{length, getD, set, drop, replicate, length-map}
 use lib.Seq.{drop-cons, set-at, append-snoc}
 use Rattle.lists.specs.Lists.{from, below}
-use Rattle.lists.proofs.Members.{length-below}
+use Rattle.lists.proofs.Members.{length-below, map-snoc}
 use Rattle.lists.proofs.Ranges.{from-append}
 use Rattle.steps.specs.Graph.{boundary}
 use Rattle.growth_state.specs.Rep.{zero64}
@@ -21,10 +21,6 @@ use Rattle.rest.specs.Rows.{alone, quiet, Rested}
 
 push : {A : Type 0} (ps t : List A) (i : ℕ) (v : A) → length ps ≡ i → i < length t → set (ps ++ drop i t) i v ≡ (ps ++ (v ∷ [])) ++ drop (i + 1) t
 push ps t i v q h = rw (add-one, drop-cons t i v h) (set-at ps (getD t i v) (drop (suc i) t) v i q ∙ sym (append-snoc ps v (drop (suc i) t)))
-
-map-snoc : {A B : Type 0} (f : A → B) (l : List A) (x : A) → map f (l ++ (x ∷ [])) ≡ map f l ++ (f x ∷ [])
-map-snoc f [] x = refl
-map-snoc {B = B} f (y ∷ l) x = ap (λ (z : List B). f y ∷ z) (map-snoc f l x)
 
 below-snoc : (i : ℕ) → below (i + 1) ≡ below i ++ (i ∷ [])
 unfolding below from
