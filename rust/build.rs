@@ -1,4 +1,5 @@
-//! Finds the static library `libserver.a`, or has it made, and links it.
+//! Finds the static library `libserver.a` and links it. Proving takes minutes, in which cargo shows nothing: a library
+//! that is missing is refused at once with the command that makes it, and made here only where `PAVRENNI_PROVE=1` asks.
 
 use std::env;
 use std::path::{Path, PathBuf};
@@ -8,6 +9,7 @@ const LIBRARY: &str = "libserver.a";
 
 fn main() {
     println!("cargo:rerun-if-env-changed=PAVRENNI_LIB_DIR");
+    println!("cargo:rerun-if-env-changed=PAVRENNI_PROVE");
     println!("cargo:rerun-if-changed=build.rs");
     match library_folder() {
         Ok(folder) => {
@@ -22,40 +24,40 @@ fn main() {
     }
 }
 
-/// The folder that `PAVRENNI_LIB_DIR` names; else the repository's, where `rt` makes the library if it is missing.
+/// The folder that `PAVRENNI_LIB_DIR` names, else the repository's; an error where the library is not in it.
 fn library_folder() -> Result<PathBuf, String> {
-    if let Some(named) = env::var_os("PAVRENNI_LIB_DIR") {
-        let folder = PathBuf::from(named);
-        return if folder.join(LIBRARY).is_file() {
-            Ok(folder)
-        } else {
-            Err(format!("PAVRENNI_LIB_DIR is {}, and there is no {LIBRARY} in it", folder.display()))
-        };
-    }
     let crate_folder = PathBuf::from(env::var_os("CARGO_MANIFEST_DIR").ok_or("cargo names no CARGO_MANIFEST_DIR")?);
     let top = crate_folder.parent().ok_or("the crate stands in no repository")?;
-    let folder = top.join("target").join("staticlib");
-    if !folder.join(LIBRARY).is_file() {
+    let named = env::var_os("PAVRENNI_LIB_DIR").map(PathBuf::from);
+    let asked = named.is_none() && env::var_os("PAVRENNI_PROVE").is_some_and(|asked| asked == "1");
+    let folder = named.unwrap_or_else(|| top.join("target").join("staticlib"));
+    if asked && !folder.join(LIBRARY).is_file() {
         make_library(top)?;
     }
     if folder.join(LIBRARY).is_file() {
         Ok(folder)
     } else {
-        Err(format!("`rt staticlib server` left no {}", folder.join(LIBRARY).display()))
+        Err(missing(&folder, top))
     }
 }
 
+/// What to do about it.
+fn missing(folder: &Path, top: &Path) -> String {
+    format!(
+        "there is no {LIBRARY} in {}: run `rt staticlib server` in {}, which proves it in some minutes and leaves it in \
+         target/staticlib there, or name another folder that has one in PAVRENNI_LIB_DIR; with PAVRENNI_PROVE=1, and \
+         PAVRENNI_LIB_DIR unset, cargo runs the command itself",
+        folder.display(),
+        top.display()
+    )
+}
+
 fn make_library(top: &Path) -> Result<(), String> {
-    let status = Command::new("rt").args(["staticlib", "server"]).current_dir(top).status().map_err(|why| {
-        format!(
-            "there is no {LIBRARY}: run `rt staticlib server` in {}, or name its folder in PAVRENNI_LIB_DIR \
-             (running `rt` from here failed: {why})",
-            top.display()
-        )
-    })?;
-    if status.success() {
-        Ok(())
-    } else {
-        Err(format!("`rt staticlib server` in {} ended with {status}", top.display()))
+    let command = format!("`rt staticlib server` in {}", top.display());
+    let status = Command::new("rt").args(["staticlib", "server"]).current_dir(top).status();
+    match status {
+        Ok(status) if status.success() => Ok(()),
+        Ok(status) => Err(format!("{command} ended with {status}")),
+        Err(why) => Err(format!("{command} could not be run: {why}")),
     }
 }

@@ -1,6 +1,7 @@
 #!/usr/bin/env bash
-# What is tested over the static library: the C header and a program that calls it, the Rust client, the quick comparison with the published Rust. Each is run where all that
-# it needs is at hand, and is said to be left out where it is not. Fails where one of them ran and failed. While the library is made, what does not need it is compiled.
+# What is tested over the static library: the C header and a program that calls it, the Rust client, the quick
+# comparison with the published Rust. Each is run where all that it needs is at hand, and is said to be left out where
+# it is not. Fails where one of them ran and failed. While the library is made, what does not need it is compiled.
 set -euo pipefail
 cd "$(dirname "$0")/.."
 
@@ -24,5 +25,14 @@ wait "$making" || {
 }
 tail -n 1 "$said"
 if command -v cc >/dev/null 2>&1; then tests/c/run.sh; else left_out "the C header: no cc"; fi
-if command -v cargo >/dev/null 2>&1; then (cd rust && cargo test --offline --quiet); else left_out "the Rust client: no cargo"; fi
+# A warning of the client is an error here: of the crate, its tests and examples by the first variable, of its
+# documentation by the second. All of it is compiled with the same flags, so nothing twice.
+client() (
+  cd rust
+  tests/build.sh
+  export RUSTFLAGS="${RUSTFLAGS:-} -D warnings" RUSTDOCFLAGS="${RUSTDOCFLAGS:-} -D warnings"
+  cargo test --offline --quiet
+  cargo doc --offline --no-deps --quiet
+)
+if command -v cargo >/dev/null 2>&1; then client; else left_out "the Rust client: no cargo"; fi
 bash differential/ci.sh
