@@ -1,106 +1,110 @@
-//! Refusals: document 01's marking sheet.
+//! Refusals: docs/RULES.md, "Refusals".
 
 use std::fmt;
 
-/// A row of the marking sheet.
+/// The codes, each said once: number, name, sentence.
+macro_rules! codes {
+    ($($number:literal $name:ident $sentence:literal),* $(,)?) => {
+        /// Why a call was refused: a row of the table in docs/RULES.md, "Refusals".
+        ///
+        /// Displayed, it is a sentence; [`name`](Code::name) and [`number`](Code::number) are for a program.
+        ///
+        /// ```
+        /// use pavrenni::Code;
+        ///
+        /// assert_eq!(Code::of(11), Code::Stuck);
+        /// assert_eq!((Code::Stuck.number(), Code::Stuck.name()), (11, "Stuck"));
+        /// assert_eq!(Code::Stuck.to_string(), "no set of edges explains it");
+        /// for code in Code::ALL {
+        ///     println!("{:2} {:12} {code}", code.number(), code.name());
+        /// }
+        /// ```
+        #[derive(Clone, Copy, Debug, PartialEq, Eq, Hash)]
+        #[non_exhaustive]
+        pub enum Code {
+            $(#[doc = concat!($number, ": ", $sentence, ".")] $name,)*
+            /// A number that this crate does not know.
+            Other(u32),
+        }
+
+        impl Code {
+            /// The codes that this crate knows, by ascending number.
+            pub const ALL: &'static [Code] = &[$(Code::$name),*];
+
+            /// The code with this number.
+            #[must_use]
+            pub const fn of(number: u32) -> Code {
+                match number {
+                    $($number => Code::$name,)*
+                    _ => Code::Other(number),
+                }
+            }
+
+            /// Its number.
+            #[must_use]
+            pub const fn number(self) -> u32 {
+                match self {
+                    $(Code::$name => $number,)*
+                    Code::Other(number) => number,
+                }
+            }
+
+            /// Its name, which stays the same from version to version; `Other` where this crate does not know it.
+            #[must_use]
+            pub const fn name(self) -> &'static str {
+                match self {
+                    $(Code::$name => stringify!($name),)*
+                    Code::Other(_) => "Other",
+                }
+            }
+
+            const fn sentence(self) -> &'static str {
+                match self {
+                    $(Code::$name => $sentence,)*
+                    Code::Other(_) => "a refusal that this client does not know",
+                }
+            }
+        }
+    };
+}
+
+codes! {
+    1 Limit "a count is over its limit, or the decomposed model finds no place",
+    2 Short "a table, list, output or scratch slice is too short",
+    3 Frame "frame digits, kind, length or order are wrong",
+    4 Probability "the probability is not in [0, 1), or the weight is neither from 0 to 1,024 nor infinity",
+    5 Index "a list is not strictly ascending, out of range or too long, or an edge's ends or observables are out of range",
+    6 NoCover "no choice of smaller mechanisms covers it",
+    7 NotGraphlike "it has over two detectors",
+    8 Length "the row data has the wrong length",
+    9 Padding "a bit past the width is set",
+    10 Width "the width differs from the number of detectors",
+    11 Stuck "no set of edges explains it",
+    12 Shape "the true observables have the wrong shape",
+    13 Edge "an edge of the list is unknown or repeated",
+}
+
+/// What a refusal names: codes 4 to 7 a mechanism or an edge, 9 and 11 a shot; the frame reader a line.
 #[derive(Clone, Copy, Debug, PartialEq, Eq, Hash)]
 #[non_exhaustive]
-pub enum Code {
-    /// 1: a count is over its limit, or the decomposed model finds no place.
-    Limit,
-    /// 2: a table, list, output or scratch slice is shorter than the counts need.
-    Short,
-    /// 3: frame digits, kind, length or order.
-    Frame,
-    /// 4: the probability of a mechanism, or the weight of an edge of a lent graph.
-    Probability,
-    /// 5: a list of a mechanism, or an edge of a lent graph.
-    Index,
-    /// 6: a mechanism has no cover.
-    NoCover,
-    /// 7: a mechanism has over two detectors.
-    NotGraphlike,
-    /// 8: the length of the row data.
-    Length,
-    /// 9: a shot's padding is set.
-    Padding,
-    /// 10: the width differs from the number of detectors.
-    Width,
-    /// 11: no set of edges explains a shot.
-    Stuck,
-    /// 12: the shape of the true observables.
-    Shape,
-    /// 13: an edge of a correction list is unknown or repeated.
-    Edge,
-    /// A number that is not on the sheet this crate was written to.
-    Other(u32),
-}
-
-const SHEET: [Code; 13] = [
-    Code::Limit,
-    Code::Short,
-    Code::Frame,
-    Code::Probability,
-    Code::Index,
-    Code::NoCover,
-    Code::NotGraphlike,
-    Code::Length,
-    Code::Padding,
-    Code::Width,
-    Code::Stuck,
-    Code::Shape,
-    Code::Edge,
-];
-
-impl Code {
-    /// The row with this number.
-    pub fn of(number: u32) -> Code {
-        let row = (number as usize).checked_sub(1).and_then(|row| SHEET.get(row));
-        row.copied().unwrap_or(Code::Other(number))
-    }
-
-    /// The number that the sheet has for the row.
-    ///
-    /// ```
-    /// use pavrenni::Code;
-    ///
-    /// assert_eq!(Code::Stuck.number(), 11);
-    /// assert_eq!(Code::of(11), Code::Stuck);
-    /// ```
-    pub fn number(self) -> u32 {
-        match self {
-            Code::Limit => 1,
-            Code::Short => 2,
-            Code::Frame => 3,
-            Code::Probability => 4,
-            Code::Index => 5,
-            Code::NoCover => 6,
-            Code::NotGraphlike => 7,
-            Code::Length => 8,
-            Code::Padding => 9,
-            Code::Width => 10,
-            Code::Stuck => 11,
-            Code::Shape => 12,
-            Code::Edge => 13,
-            Code::Other(number) => number,
-        }
-    }
-}
-
-/// What a row of the sheet names: codes 4 to 7 a mechanism or an edge, 9 and 11 a shot; the frame reader a line, from 1.
-#[derive(Clone, Copy, Debug, PartialEq, Eq, Hash)]
 pub enum Item {
+    /// A mechanism of the model that was handed over, from 0.
     Mechanism(usize),
+    /// An edge of the lent graph, from 0.
     Edge(usize),
+    /// A shot, from 0; a shot that is decoded or marked alone is shot 0.
     Shot(usize),
+    /// A line of the text, from 1.
     Line(usize),
 }
 
-/// A refusal, with the values that its row of the sheet names.
+/// A refusal, with the values that its code names.
 #[derive(Clone, Copy, Debug, PartialEq, Eq, Hash)]
+#[non_exhaustive]
 pub struct Error {
+    /// Why.
     pub code: Code,
-    /// The mechanism, edge, shot or line, where the row names one.
+    /// The mechanism, edge, shot or line, where the code names one.
     pub at: Option<Item>,
     /// The detector that Stuck names: the lowest of its cluster.
     pub detector: Option<usize>,
@@ -134,22 +138,7 @@ impl Error {
 
 impl fmt::Display for Code {
     fn fmt(&self, f: &mut fmt::Formatter<'_>) -> fmt::Result {
-        f.write_str(match self {
-            Code::Limit => "a count is over its limit, or the decomposed model finds no place",
-            Code::Short => "a table, list, output or scratch slice is too short",
-            Code::Frame => "frame digits, kind, length or order are wrong",
-            Code::Probability => "the probability is not in [0, 1), or the weight is neither from 0 to 1,024 nor infinity",
-            Code::Index => "a list is not strictly ascending, out of range or too long, or an edge's ends or observables are out of range",
-            Code::NoCover => "no choice of smaller mechanisms covers it",
-            Code::NotGraphlike => "it has over two detectors",
-            Code::Length => "the row data has the wrong length",
-            Code::Padding => "a bit past the width is set",
-            Code::Width => "the width differs from the number of detectors",
-            Code::Stuck => "no set of edges explains it",
-            Code::Shape => "the true observables have the wrong shape",
-            Code::Edge => "an edge of the list is unknown or repeated",
-            Code::Other(_) => "a refusal that this client does not know",
-        })
+        f.write_str(self.sentence())
     }
 }
 
@@ -170,9 +159,9 @@ impl fmt::Display for Error {
         if let Some(at) = self.at {
             write!(f, ", {at}")?;
         }
-        match self.reason {
-            Some(reason) => write!(f, ": {reason}")?,
-            None => write!(f, ": {}", self.code)?,
+        write!(f, ": {}", self.code)?;
+        if let Some(reason) = self.reason {
+            write!(f, ": {reason}")?;
         }
         if let Some(detector) = self.detector {
             write!(f, "; the cluster of detector {detector} is stuck")?;

@@ -1,4 +1,4 @@
-//! Document 01's frames: one a line, lower-case hexadecimal, big-endian.
+//! Frames: docs/RULES.md, "Frames". One a line, lower-case hexadecimal, big-endian.
 //!
 //! Frames say how things are written, not whether they are right: a model or a shot that is read here is checked by the
 //! calls that take it. What no frame can say is refused with code 3, by the reader with its line.
@@ -14,24 +14,28 @@
 //!     060000000000000001\n";
 //! let recording = frames::read(text.as_bytes())?;
 //! assert_eq!(recording.model.mechanisms[1].detectors, [0, 1]);
-//! assert_eq!(recording.shot(0), [2]);
+//! assert_eq!(recording.shot(0), Some(&[2][..]));
 //! assert_eq!(frames::write(&recording)?, text);
 //!
 //! assert_eq!(frames::read_lists(b"86000200010000\n")?, [[1, 0]]);
 //! assert_eq!(frames::write_list(&[1, 0])?, "86000200010000\n");
 //!
 //! let wrong = frames::read(b"0100020001\n05").unwrap_err();
-//! assert_eq!(wrong.to_string(), "code 3, line 2: frame 05 does not stand before frame 04");
+//! assert_eq!(wrong.at, Some(pavrenni::Item::Line(2)));
+//! assert_eq!(wrong.reason, Some("frame 05 does not stand before frame 04"));
 //! # Ok::<(), pavrenni::Error>(())
 //! ```
 
 use crate::{Component, Error, Mechanism, Model, Packed};
 use std::fmt::Write;
+use std::iter::FusedIterator;
 
 /// A model with shots and their true observables.
 #[derive(Clone, Debug, Default, PartialEq)]
 pub struct Recording {
+    /// The model.
     pub model: Model,
+    /// How many shots there are.
     pub shots: usize,
     /// A row of detectors a shot.
     pub rows: Vec<u64>,
@@ -41,20 +45,34 @@ pub struct Recording {
 
 impl Recording {
     /// All shots.
+    #[must_use]
     pub fn packed(&self) -> Packed<'_> {
-        Packed { words: &self.rows, shots: self.shots, width: self.model.detectors }
+        Packed::new(&self.rows, self.shots, self.model.detectors)
     }
 
     /// The true observables of all shots.
+    #[must_use]
     pub fn packed_truth(&self) -> Packed<'_> {
-        Packed { words: &self.truth, shots: self.shots, width: self.model.observables }
+        Packed::new(&self.truth, self.shots, self.model.observables)
     }
 
-    /// The row of one shot. Panics where there is no such shot.
-    pub fn shot(&self, shot: usize) -> &[u64] {
-        let words = self.model.detectors.div_ceil(64);
-        &self.rows[shot * words..(shot + 1) * words]
+    /// The row of one shot; `None` where there is no such shot.
+    #[must_use]
+    pub fn shot(&self, shot: usize) -> Option<&[u64]> {
+        row_of(self.packed(), shot)
     }
+
+    /// The true observables of one shot; `None` where there is no such shot.
+    #[must_use]
+    pub fn true_observables(&self, shot: usize) -> Option<&[u64]> {
+        row_of(self.packed_truth(), shot)
+    }
+}
+
+fn row_of(rows: Packed<'_>, shot: usize) -> Option<&[u64]> {
+    let words = rows.width.div_ceil(64);
+    let start = shot.checked_mul(words).filter(|_| shot < rows.shots)?;
+    rows.words.get(start..start.checked_add(words)?)
 }
 
 // ---- reading
@@ -113,12 +131,19 @@ impl Frame {
         Ok(Component { detectors: self.list(detectors)?, observables: self.list(observables)? })
     }
 
-    /// The words of a row of `width` bits.
-    fn row(&mut self, width: usize, row: &mut Vec<u64>) -> Result<(), Error> {
-        for _ in 0..width.div_ceil(64) {
-            row.push(self.number(8)?);
+    /// A frame that holds a row of `width` bits, and no more.
+    fn row(&mut self, width: usize) -> Result<Vec<u64>, Error> {
+        let row = (0..width.div_ceil(64)).map(|_| self.number(8)).collect::<Result<_, _>>()?;
+        self.end()?;
+        Ok(row)
+    }
+
+    /// The kind of the frame, which has to be this one.
+    fn kind(&mut self, part: Part, wanted: u64) -> Result<(), Error> {
+        match self.number(1)? {
+            kind if kind == wanted => Ok(()),
+            kind => Err(self.refuse(out_of_place(part, kind))),
         }
-        Ok(())
     }
 
     fn end(&self) -> Result<(), Error> {
@@ -138,10 +163,31 @@ fn digit(byte: u8) -> Option<u8> {
 }
 
 /// The frames of a text, one a line. The line feed of the last line may be missing.
-fn frames(text: &[u8]) -> impl Iterator<Item = Result<Frame, Error>> + '_ {
-    let lines = text.strip_suffix(b"\n").unwrap_or(text);
-    let skip = usize::from(text.is_empty());
-    lines.split(|byte| *byte == b'\n').skip(skip).enumerate().map(|(line, digits)| Frame::of(line + 1, digits))
+#[derive(Clone, Debug)]
+struct Frames<'a> {
+    rest: &'a [u8],
+    line: usize,
+}
+
+impl<'a> Frames<'a> {
+    fn of(text: &'a [u8]) -> Frames<'a> {
+        Frames { rest: text, line: 0 }
+    }
+}
+
+impl Iterator for Frames<'_> {
+    type Item = Result<Frame, Error>;
+
+    fn next(&mut self) -> Option<Self::Item> {
+        if self.rest.is_empty() {
+            return None;
+        }
+        let end = self.rest.iter().position(|byte| *byte == b'\n').unwrap_or(self.rest.len());
+        let digits = &self.rest[..end];
+        self.rest = self.rest.get(end + 1..).unwrap_or_default();
+        self.line += 1;
+        Some(Frame::of(self.line, digits))
+    }
 }
 
 /// Which frames may come next.
@@ -154,56 +200,120 @@ enum Part {
 }
 
 /// Reads a model and its shots: frames 01 to 04, then 05 and 06 in turn.
+///
+/// # Errors
+///
+/// 3 with the line and the reason, without a line where the text ends too early. Nothing is handed back:
+/// [`read_model`] hands out what stands before the line.
 pub fn read(text: &[u8]) -> Result<Recording, Error> {
-    let mut recording = Recording::default();
-    let mut part = Part::Head;
-    for frame in frames(text) {
-        let mut frame = frame?;
-        part = recording.take(part, &mut frame)?;
-        frame.end()?;
+    let (model, shots) = read_model(text)?;
+    let mut recording = Recording { model, ..Recording::default() };
+    for shot in shots {
+        let RecordedShot { row, truth } = shot?;
+        recording.shots += 1;
+        recording.rows.extend(row);
+        recording.truth.extend(truth);
     }
-    match part {
-        Part::Head | Part::Model => Err(Error::frame(None, "the input ends before frame 04")),
-        Part::Truth => Err(Error::frame(None, "the input ends after a frame 05, before its frame 06")),
-        Part::Shot => Ok(recording),
+    Ok(recording)
+}
+
+/// Reads a model, frames 01 to 04, and hands out the shots behind it, of which none is read yet.
+///
+/// ```
+/// use pavrenni::frames;
+///
+/// let text = b"0100020001\n04\n050000000000000002\n060000000000000001\n05\n";
+/// let (model, mut shots) = frames::read_model(text)?;
+/// assert_eq!(model.detectors, 2);
+/// assert_eq!(shots.next().unwrap()?.row, [2]);
+/// assert_eq!(shots.next().unwrap().unwrap_err().reason, Some("the frame is too short"));
+/// assert!(shots.next().is_none());
+/// # Ok::<(), pavrenni::Error>(())
+/// ```
+///
+/// # Errors
+///
+/// 3 with the line and the reason, without a line where the text ends before frame 04.
+pub fn read_model(text: &[u8]) -> Result<(Model, Shots<'_>), Error> {
+    let mut frames = Frames::of(text);
+    let mut next = || frames.next().unwrap_or(Err(Error::frame(None, "the input ends before frame 04")));
+    let mut head = next()?;
+    head.kind(Part::Head, 1)?;
+    let mut model = Model::new(head.number(2)? as usize, head.number(2)? as usize);
+    head.end()?;
+    while model.take(&mut next()?)? {}
+    let (detectors, observables) = (model.detectors, model.observables);
+    Ok((model, Shots { frames, detectors, observables }))
+}
+
+impl Model {
+    /// Takes a frame behind 01; `false` for 04, which is the last.
+    fn take(&mut self, frame: &mut Frame) -> Result<bool, Error> {
+        let kind = frame.number(1)?;
+        match kind {
+            2 => {
+                let probability = f64::from_bits(frame.number(8)?);
+                let lists = frame.lists()?;
+                self.mechanisms.push(Mechanism::new(probability, lists.detectors, lists.observables));
+            }
+            3 => {
+                let component = frame.lists()?;
+                let mechanism = self.mechanisms.last_mut();
+                mechanism.ok_or_else(|| frame.refuse("frame 03 has no frame 02 above it"))?.components.push(component);
+            }
+            4 => (),
+            kind => return Err(frame.refuse(out_of_place(Part::Model, kind))),
+        }
+        frame.end()?;
+        Ok(kind != 4)
     }
 }
 
-impl Recording {
-    /// Takes one frame and says what may come next.
-    fn take(&mut self, part: Part, frame: &mut Frame) -> Result<Part, Error> {
-        match (part, frame.number(1)?) {
-            (Part::Head, 1) => {
-                self.model.detectors = frame.number(2)? as usize;
-                self.model.observables = frame.number(2)? as usize;
-                Ok(Part::Model)
-            }
-            (Part::Model, 2) => {
-                let probability = f64::from_bits(frame.number(8)?);
-                let Component { detectors, observables } = frame.lists()?;
-                self.model.mechanisms.push(Mechanism { probability, detectors, observables, components: Vec::new() });
-                Ok(Part::Model)
-            }
-            (Part::Model, 3) => {
-                let component = frame.lists()?;
-                let mechanism = self.model.mechanisms.last_mut();
-                mechanism.ok_or_else(|| frame.refuse("frame 03 has no frame 02 above it"))?.components.push(component);
-                Ok(Part::Model)
-            }
-            (Part::Model, 4) => Ok(Part::Shot),
-            (Part::Shot, 5) => {
-                frame.row(self.model.detectors, &mut self.rows)?;
-                Ok(Part::Truth)
-            }
-            (Part::Truth, 6) => {
-                frame.row(self.model.observables, &mut self.truth)?;
-                self.shots += 1;
-                Ok(Part::Shot)
-            }
-            (part, kind) => Err(frame.refuse(out_of_place(part, kind))),
-        }
+/// A shot with its true observables.
+#[must_use]
+#[derive(Clone, Debug, Default, PartialEq, Eq)]
+#[non_exhaustive]
+pub struct RecordedShot {
+    /// The row of detectors, frame 05.
+    pub row: Vec<u64>,
+    /// The row of true observables, frame 06.
+    pub truth: Vec<u64>,
+}
+
+/// The shots behind a model, each read when it is asked for. A refusal has code 3, the line and the reason (no line
+/// where the text ends after a frame 05), and is the last.
+#[derive(Clone, Debug)]
+pub struct Shots<'a> {
+    frames: Frames<'a>,
+    detectors: usize,
+    observables: usize,
+}
+
+impl Shots<'_> {
+    /// The shot that begins with this frame.
+    fn shot(&mut self, mut first: Frame) -> Result<RecordedShot, Error> {
+        first.kind(Part::Shot, 5)?;
+        let row = first.row(self.detectors)?;
+        let ends = Error::frame(None, "the input ends after a frame 05, before its frame 06");
+        let mut second = self.frames.next().unwrap_or(Err(ends))?;
+        second.kind(Part::Truth, 6)?;
+        Ok(RecordedShot { row, truth: second.row(self.observables)? })
     }
 }
+
+impl Iterator for Shots<'_> {
+    type Item = Result<RecordedShot, Error>;
+
+    fn next(&mut self) -> Option<Self::Item> {
+        let shot = self.frames.next()?.and_then(|frame| self.shot(frame));
+        if shot.is_err() {
+            self.frames.rest = &[];
+        }
+        Some(shot)
+    }
+}
+
+impl FusedIterator for Shots<'_> {}
 
 /// Why a frame of this kind does not stand here.
 fn out_of_place(part: Part, kind: u64) -> &'static str {
@@ -220,8 +330,12 @@ fn out_of_place(part: Part, kind: u64) -> &'static str {
 }
 
 /// Reads correction lists, an 86 a line.
+///
+/// # Errors
+///
+/// 3 with the line and the reason. Nothing is handed back.
 pub fn read_lists(text: &[u8]) -> Result<Vec<Vec<u32>>, Error> {
-    frames(text)
+    Frames::of(text)
         .map(|frame| {
             let mut frame = frame?;
             if frame.number(1)? != 0x86 {
@@ -237,12 +351,16 @@ pub fn read_lists(text: &[u8]) -> Result<Vec<Vec<u32>>, Error> {
 
 // ---- writing
 
+fn push_digits(text: &mut String, number: u64, digits: usize) {
+    write!(text, "{number:0digits$x}").expect("a string takes what is written");
+}
+
 /// `number` in `digits` hexadecimal digits, where it fits.
 fn push_number(text: &mut String, number: u64, digits: usize, reason: &'static str) -> Result<(), Error> {
-    if digits < 16 && number >> (4 * digits) != 0 {
+    if number >> (4 * digits) != 0 {
         return Err(Error::frame(None, reason));
     }
-    write!(text, "{number:0digits$x}").expect("writing to a string");
+    push_digits(text, number, digits);
     Ok(())
 }
 
@@ -259,14 +377,18 @@ fn push_lists(text: &mut String, detectors: &[u32], observables: &[u32]) -> Resu
     Ok(())
 }
 
-fn push_row(text: &mut String, kind: &str, row: &[u64]) -> Result<(), Error> {
+fn push_row(text: &mut String, kind: &str, row: &[u64]) {
     text.push_str(kind);
-    row.iter().try_for_each(|word| push_number(text, *word, 16, ""))?;
+    row.iter().for_each(|word| push_digits(text, *word, 16));
     text.push('\n');
-    Ok(())
 }
 
 /// Writes a model and its shots, each line ended by a line feed.
+///
+/// # Errors
+///
+/// 3 with the reason, where a number has no place in its frame or the rows are not as long as the shots need. Nothing
+/// is handed back.
 pub fn write(recording: &Recording) -> Result<String, Error> {
     let Recording { model, shots, rows, truth } = recording;
     let mut text = String::from("01");
@@ -274,7 +396,8 @@ pub fn write(recording: &Recording) -> Result<String, Error> {
     push_number(&mut text, model.observables as u64, 4, "the number of observables has over two bytes")?;
     text.push('\n');
     for mechanism in &model.mechanisms {
-        write!(text, "02{:016x}", mechanism.probability.to_bits()).expect("writing to a string");
+        text.push_str("02");
+        push_digits(&mut text, mechanism.probability.to_bits(), 16);
         push_lists(&mut text, &mechanism.detectors, &mechanism.observables)?;
         for component in &mechanism.components {
             text.push_str("03");
@@ -287,17 +410,43 @@ pub fn write(recording: &Recording) -> Result<String, Error> {
         return Err(Error::frame(None, "the rows are not as many words as the shots need"));
     }
     for shot in 0..*shots {
-        push_row(&mut text, "05", &rows[shot * row..(shot + 1) * row])?;
-        push_row(&mut text, "06", &truth[shot * true_row..(shot + 1) * true_row])?;
+        push_row(&mut text, "05", &rows[shot * row..(shot + 1) * row]);
+        push_row(&mut text, "06", &truth[shot * true_row..(shot + 1) * true_row]);
     }
     Ok(text)
 }
 
 /// Writes a correction list as an 86, ended by a line feed.
+///
+/// # Errors
+///
+/// 3 with the reason, where the list has over 65,535 edges or an edge over two bytes. Nothing is handed back.
 pub fn write_list(list: &[u32]) -> Result<String, Error> {
     let mut text = String::from("86");
     push_number(&mut text, list.len() as u64, 4, "a list has over 65,535 edges")?;
     push_indices(&mut text, list)?;
     text.push('\n');
     Ok(text)
+}
+
+/// Writes a row of predicted observables as an 85, ended by a line feed.
+///
+/// ```
+/// assert_eq!(pavrenni::frames::write_row(&[1]), "850000000000000001\n");
+/// ```
+#[must_use]
+pub fn write_row(row: &[u64]) -> String {
+    let mut text = String::new();
+    push_row(&mut text, "85", row);
+    text
+}
+
+/// Writes what ends an output as an 8f, ended by a line feed: the shots, the failures among them and the rate.
+///
+/// ```
+/// assert_eq!(pavrenni::frames::write_rate(4, 1, 0.25), "8f00000004000000013fd0000000000000\n");
+/// ```
+#[must_use]
+pub fn write_rate(shots: u32, failures: u32, rate: f64) -> String {
+    format!("8f{shots:08x}{failures:08x}{:016x}\n", rate.to_bits())
 }

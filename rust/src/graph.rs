@@ -1,13 +1,17 @@
-//! Edge graphs: document 01, "Edge graph".
+//! Edge graphs: docs/RULES.md, "Graphs".
+
+use crate::BoundDecoder;
 
 /// The second end of a boundary edge.
 pub const BOUNDARY: u32 = 4_294_967_295;
 
-/// An edge graph as lent tables. [`Model::compile`](crate::Model::compile) makes one, and any other can be written down:
-/// each call checks it first, edge by edge.
+/// An edge graph as lent tables. [`Model::compile`](crate::Model::compile) makes one, and any other can be written
+/// down: each call checks it first, edge by edge.
 #[derive(Clone, Debug, Default, PartialEq)]
 pub struct Graph {
+    /// The number of detectors.
     pub detectors: usize,
+    /// The number of observables.
     pub observables: usize,
     /// The first end of each edge, a detector.
     pub edge_u: Vec<u32>,
@@ -22,7 +26,14 @@ pub struct Graph {
 impl Graph {
     /// The number of edges: the entries of the longest of the first three tables, so that a table with an entry missing
     /// is refused with code 2 and no edge is left out unseen.
+    #[must_use]
     pub fn edges(&self) -> usize {
         self.edge_u.len().max(self.edge_v.len()).max(self.edge_weight.len())
+    }
+
+    /// A decoder for this graph alone.
+    #[must_use]
+    pub fn decoder(&self) -> BoundDecoder<'_> {
+        BoundDecoder::new(self)
     }
 }

@@ -1,31 +1,75 @@
-//! Detector error models: document 01, "Mechanism" and "Decomposed model".
+//! Detector error models: docs/RULES.md, "Models" and "Decomposition".
 
 use crate::raw::{self, CompileScratch, DecomposeScratch, Tables};
 use crate::{row_words, Error, Graph, Item};
 
 /// A detector error model. Any model can be written down; the library checks it.
+///
+/// ```
+/// use pavrenni::{Component, Mechanism, Model};
+///
+/// let mut model = Model::new(3, 1).with_mechanisms([
+///     Mechanism::new(0.25, [0], [0]),
+///     Mechanism::new(0.125, [0, 1, 2], [0])
+///         .with_components([Component::new([0], [0]), Component::new([1, 2], [])]),
+/// ]);
+/// model.mechanisms.push(Mechanism::new(0.25, [1, 2], []));
+/// assert_eq!(model.decompose()?.mechanisms.len(), 2);
+/// # Ok::<(), pavrenni::Error>(())
+/// ```
 #[derive(Clone, Debug, Default, PartialEq)]
 pub struct Model {
+    /// The number of detectors.
     pub detectors: usize,
+    /// The number of observables.
     pub observables: usize,
+    /// The mechanisms, in order.
     pub mechanisms: Vec<Mechanism>,
 }
 
 /// An error mechanism: with this probability it flips these detectors and observables.
 #[derive(Clone, Debug, Default, PartialEq)]
 pub struct Mechanism {
+    /// At least 0 and below 1.
     pub probability: f64,
+    /// Strictly ascending.
     pub detectors: Vec<u32>,
+    /// Strictly ascending.
     pub observables: Vec<u32>,
-    /// Suggested components.
+    /// Suggestions how it may be split.
     pub components: Vec<Component>,
 }
 
 /// A suggested component of a mechanism.
 #[derive(Clone, Debug, Default, PartialEq, Eq)]
 pub struct Component {
+    /// Strictly ascending.
     pub detectors: Vec<u32>,
+    /// Strictly ascending.
     pub observables: Vec<u32>,
+}
+
+impl Component {
+    /// A component with these detectors and observables.
+    #[must_use]
+    pub fn new(detectors: impl Into<Vec<u32>>, observables: impl Into<Vec<u32>>) -> Component {
+        Component { detectors: detectors.into(), observables: observables.into() }
+    }
+}
+
+impl Mechanism {
+    /// A mechanism with these detectors and observables, and no components.
+    #[must_use]
+    pub fn new(probability: f64, detectors: impl Into<Vec<u32>>, observables: impl Into<Vec<u32>>) -> Mechanism {
+        Mechanism { probability, detectors: detectors.into(), observables: observables.into(), components: Vec::new() }
+    }
+
+    /// The mechanism with these components after those that it has.
+    #[must_use]
+    pub fn with_components(mut self, components: impl IntoIterator<Item = Component>) -> Mechanism {
+        self.components.extend(components);
+        self
+    }
 }
 
 /// A list of over 16 entries is refused with 5, so no more than 17 are told of one: the count fits its byte, and the
@@ -37,8 +81,9 @@ fn told<T>(list: &[T]) -> &[T] {
 }
 
 impl Tables {
-    /// A model as the library reads it. Of a list, or of components, that are over 16 the first 17 stand here, for which
-    /// the library refuses the mechanism as it would for all of them.
+    /// A model as the library reads it. Of a list, or of components, that are over 16 the first 17 stand here, for
+    /// which the library refuses the mechanism as it would for all of them.
+    #[must_use]
     pub fn of(model: &Model) -> Tables {
         let mut tables = Tables::default();
         for mechanism in &model.mechanisms {
@@ -70,8 +115,9 @@ impl Tables {
         list.len() as u8
     }
 
-    /// Tables for what decomposition may leave of this model: each component may become a mechanism, and every list that
-    /// is left stands in the model, once for each time that it is left.
+    /// Tables for what decomposition may leave of this model: each component may become a mechanism, and every list
+    /// that is left stands in the model, once for each time that it is left.
+    #[must_use]
     pub fn room(&self) -> Tables {
         let components = self.component_detectors.len();
         let mechanisms = self.probability.len() + components;
@@ -86,78 +132,100 @@ impl Tables {
         }
     }
 
-    /// The first `mechanisms` mechanisms, read back. Panics where the tables do not hold them.
-    pub fn mechanisms(&self, mechanisms: usize) -> Vec<Mechanism> {
-        let mut entries = self.entries.iter().copied();
-        let mut list = |count: u8| -> Vec<u32> { (0..count).map(|_| entries.next().expect("an entry for each count")).collect() };
+    /// The first `mechanisms` mechanisms, read back; `None` where the tables do not hold them.
+    #[must_use]
+    pub fn mechanisms(&self, mechanisms: usize) -> Option<Vec<Mechanism>> {
+        let mut entries = self.entries.as_slice();
         let mut component = 0;
-        let mut read = Vec::with_capacity(mechanisms);
+        let mut read = Vec::new();
         for i in 0..mechanisms {
-            let mut mechanism = Mechanism {
-                probability: self.probability[i],
-                detectors: list(self.detector_counts[i]),
-                observables: list(self.observable_counts[i]),
-                components: Vec::new(),
-            };
-            for _ in 0..self.component_counts[i] {
-                mechanism.components.push(Component {
-                    detectors: list(self.component_detectors[component]),
-                    observables: list(self.component_observables[component]),
-                });
+            let lists = take_lists(&mut entries, *self.detector_counts.get(i)?, *self.observable_counts.get(i)?)?;
+            let mut mechanism = Mechanism::new(*self.probability.get(i)?, lists.detectors, lists.observables);
+            for _ in 0..*self.component_counts.get(i)? {
+                let (detectors, observables) = (*self.component_detectors.get(component)?, *self.component_observables.get(component)?);
+                mechanism.components.push(take_lists(&mut entries, detectors, observables)?);
                 component += 1;
             }
             read.push(mechanism);
         }
-        read
+        Some(read)
     }
 }
 
+/// The detectors and observables at the front of the entries, which are then past them.
+fn take_lists(entries: &mut &[u32], detectors: u8, observables: u8) -> Option<Component> {
+    let mut take = |count: u8| {
+        let list = entries.get(..usize::from(count))?.to_vec();
+        *entries = &entries[list.len()..];
+        Some(list)
+    };
+    Some(Component::new(take(detectors)?, take(observables)?))
+}
+
 impl Model {
+    /// A model with so many detectors and observables, and no mechanisms.
+    #[must_use]
+    pub const fn new(detectors: usize, observables: usize) -> Model {
+        Model { detectors, observables, mechanisms: Vec::new() }
+    }
+
+    /// The model with these mechanisms after those that it has.
+    #[must_use]
+    pub fn with_mechanisms(mut self, mechanisms: impl IntoIterator<Item = Mechanism>) -> Model {
+        self.mechanisms.extend(mechanisms);
+        self
+    }
+
     /// The decomposed model: mechanisms of over two detectors are split along their suggested components, or by their
     /// first cover.
-    ///
-    /// Refused with 1, 4, 5 or 6.
     ///
     /// ```
     /// use pavrenni::{Mechanism, Model};
     ///
-    /// let of = |probability, detectors: &[u32]| Mechanism { probability, detectors: detectors.to_vec(), ..Mechanism::default() };
-    /// let model = Model { detectors: 3, observables: 0, mechanisms: vec![of(0.25, &[0]), of(0.125, &[1, 2]), of(0.25, &[0, 1, 2])] };
+    /// let model = Model::new(3, 0).with_mechanisms([
+    ///     Mechanism::new(0.25, [0], []),
+    ///     Mechanism::new(0.125, [1, 2], []),
+    ///     Mechanism::new(0.25, [0, 1, 2], []),
+    /// ]);
     /// let decomposed = model.decompose()?;
     /// assert_eq!(decomposed.mechanisms.len(), 2);
     /// assert_eq!(decomposed.mechanisms[0].probability, 0.375);
     /// # Ok::<(), pavrenni::Error>(())
     /// ```
+    ///
+    /// # Errors
+    ///
+    /// In this order: 1 where a count is over its limit; by mechanism 5 and then 4; by mechanism 6 where it has no
+    /// cover, or 1 where one of its components would be a mechanism too many. The model is untouched, and nothing is
+    /// handed back.
     pub fn decompose(&self) -> Result<Model, Error> {
         let tables = Tables::of(self);
         let mut out = tables.room();
         let mut scratch = DecomposeScratch::with_lengths(&raw::decompose_lengths(self.detectors, self.mechanisms.len()));
         let answer = raw::decompose(self.counts(), &tables, &mut out, &mut scratch);
         Error::check(answer.code, answer.first, answer.second, Item::Mechanism)?;
-        Ok(Model { detectors: self.detectors, observables: self.observables, mechanisms: out.mechanisms(answer.mechanisms) })
+        let mechanisms = out.mechanisms(answer.mechanisms).expect("the library wrote the mechanisms that it told");
+        Ok(Model { detectors: self.detectors, observables: self.observables, mechanisms })
     }
 
     /// The edge graph of a model whose mechanisms of probability above 0 have at most two detectors.
     ///
-    /// Refused with 1, 4, 5 or 7.
-    ///
     /// ```
     /// use pavrenni::{Mechanism, Model, BOUNDARY};
     ///
-    /// let model = Model {
-    ///     detectors: 2,
-    ///     observables: 1,
-    ///     mechanisms: vec![
-    ///         Mechanism { probability: 0.25, detectors: vec![0], observables: vec![0], components: vec![] },
-    ///         Mechanism { probability: 0.25, detectors: vec![0, 1], observables: vec![], components: vec![] },
-    ///     ],
-    /// };
+    /// let mechanisms = [Mechanism::new(0.25, [0], [0]), Mechanism::new(0.25, [0, 1], [])];
+    /// let model = Model::new(2, 1).with_mechanisms(mechanisms);
     /// let graph = model.compile()?;
     /// assert_eq!(graph.edge_u, [0, 0]);
     /// assert_eq!(graph.edge_v, [BOUNDARY, 1]);
     /// assert_eq!(graph.edge_obs, [1, 0]);
     /// # Ok::<(), pavrenni::Error>(())
     /// ```
+    ///
+    /// # Errors
+    ///
+    /// In this order: 1 where a count is over its limit; by mechanism 5, 4 and 7. The model is untouched, and nothing
+    /// is handed back.
     pub fn compile(&self) -> Result<Graph, Error> {
         let tables = Tables::of(self);
         let mechanisms = self.mechanisms.len();

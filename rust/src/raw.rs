@@ -17,55 +17,60 @@ use crate::{sys, Graph, Packed};
 
 // ---- memory
 
-/// A model in flat tables, of any lengths: what decomposition and compiling read, and what decomposition writes.
-#[derive(Clone, Debug, Default, PartialEq)]
-pub struct Tables {
-    /// An entry a mechanism, in this and the next three.
-    pub probability: Vec<f64>,
-    pub detector_counts: Vec<u8>,
-    pub observable_counts: Vec<u8>,
-    pub component_counts: Vec<u8>,
-    /// An entry a component, those of mechanism 0 first, in this and the next.
-    pub component_detectors: Vec<u8>,
-    pub component_observables: Vec<u8>,
-    /// For each mechanism its detectors, its observables, then for each of its components the same.
-    pub entries: Vec<u32>,
-}
-
-/// The tables of a model as they are lent: of [`Tables`], or of a host's own.
-#[derive(Clone, Copy, Debug)]
-pub struct LentTables<'a> {
-    pub probability: &'a [f64],
-    pub detector_counts: &'a [u8],
-    pub observable_counts: &'a [u8],
-    pub component_counts: &'a [u8],
-    pub component_detectors: &'a [u8],
-    pub component_observables: &'a [u8],
-    pub entries: &'a [u32],
-}
-
-impl<'a> From<&'a Tables> for LentTables<'a> {
-    fn from(tables: &'a Tables) -> Self {
-        LentTables {
-            probability: &tables.probability,
-            detector_counts: &tables.detector_counts,
-            observable_counts: &tables.observable_counts,
-            component_counts: &tables.component_counts,
-            component_detectors: &tables.component_detectors,
-            component_observables: &tables.component_observables,
-            entries: &tables.entries,
+macro_rules! tables {
+    ($($(#[$about:meta])* $table:ident: $entry:ty),* $(,)?) => {
+        /// A model in flat tables, of any lengths: what decomposition and compiling read, and what decomposition
+        /// writes.
+        #[derive(Clone, Debug, Default, PartialEq)]
+        pub struct Tables {
+            $($(#[$about])* pub $table: Vec<$entry>),*
         }
-    }
+
+        /// The tables of a model as they are lent: of [`Tables`], or of a host's own.
+        #[derive(Clone, Copy, Debug)]
+        pub struct LentTables<'a> {
+            $($(#[$about])* pub $table: &'a [$entry]),*
+        }
+
+        impl<'a> From<&'a Tables> for LentTables<'a> {
+            fn from(tables: &'a Tables) -> Self {
+                LentTables { $($table: &tables.$table),* }
+            }
+        }
+    };
+}
+
+tables! {
+    /// The probability of each mechanism.
+    probability: f64,
+    /// How many detectors each mechanism has.
+    detector_counts: u8,
+    /// How many observables each mechanism has.
+    observable_counts: u8,
+    /// How many components each mechanism has.
+    component_counts: u8,
+    /// How many detectors each component has, those of mechanism 0 first.
+    component_detectors: u8,
+    /// How many observables each component has.
+    component_observables: u8,
+    /// For each mechanism its detectors, its observables, then for each of its components the same.
+    entries: u32,
 }
 
 /// A graph as it is lent: a [`Graph`], or a host's own. The number of edges is told beside it.
 #[derive(Clone, Copy, Debug)]
 pub struct LentGraph<'a> {
+    /// As [`Graph::detectors`].
     pub detectors: usize,
+    /// As [`Graph::observables`].
     pub observables: usize,
+    /// As [`Graph::edge_u`].
     pub edge_u: &'a [u32],
+    /// As [`Graph::edge_v`].
     pub edge_v: &'a [u32],
+    /// As [`Graph::edge_weight`].
     pub edge_weight: &'a [f64],
+    /// As [`Graph::edge_obs`].
     pub edge_obs: &'a [u64],
 }
 
@@ -93,12 +98,18 @@ macro_rules! scratch {
     ($(#[$about:meta])* $name:ident of $lengths:ident { $($(#[$columns:meta])* $slice:ident: $entry:ty),* $(,)? }) => {
         $(#[$about])*
         #[derive(Clone, Debug, Default, PartialEq)]
+        #[non_exhaustive]
         pub struct $name {
             $($(#[$columns])* pub $slice: Vec<$entry>),*
         }
 
         impl $name {
             /// Each slice with the length told for it.
+            ///
+            /// # Panics
+            ///
+            /// Where a length is more than a vector can have, which none that the library tells is.
+            #[must_use]
             pub fn with_lengths(lengths: &sys::$lengths) -> Self {
                 Self { $($slice: vec![<$entry>::default(); lengths.$slice]),* }
             }
@@ -109,6 +120,7 @@ macro_rules! scratch {
 scratch! {
     /// The decoder's scratch slices: docs/SCRATCH.md.
     Scratch of Lengths {
+        /// Where the rows of each detector begin in `adj`.
         adj_offsets: u32,
         /// Edge, other end.
         adj: [u32; 2],
@@ -120,68 +132,97 @@ scratch! {
         stacks: [u32; 6],
         /// Touched, count, fresh, one to spare.
         links: [u32; 4],
+        /// The growth of each edge.
         growth: f64,
+        /// Whether each edge is saturated.
         sat: bool,
     }
 }
 
 scratch! {
-    /// The scratch slices of decomposition.
+    /// The scratch slices of decomposition: docs/SCRATCH.md.
     DecomposeScratch of DecomposeLengths {
+        /// Where the lists of each mechanism of the new model begin in the entries given.
         starts: u32,
+        /// The mechanism before it with the same first detector.
         before: u32,
+        /// The last mechanism at each first detector.
         last_of: u32,
+        /// The first kept mechanism at each first detector.
         first_of: u32,
+        /// The kept mechanism after it with the same first detector.
         next_of: u32,
+        /// The number of each candidate of a cover.
         numbers: u32,
+        /// Its detectors.
         masks: u16,
+        /// Its observables 0 to 63.
         words0: u64,
+        /// Its observables 64 to 127.
         words1: u64,
+        /// An earlier candidate that is equal to it.
         earlier: u32,
     }
 }
 
 scratch! {
-    /// The scratch slices of compiling.
-    CompileScratch of CompileLengths { edge_p: f64, first: u32, next: u32 }
+    /// The scratch slices of compiling: docs/SCRATCH.md.
+    CompileScratch of CompileLengths {
+        /// The probability of each edge.
+        edge_p: f64,
+        /// The last edge at each first end.
+        first: u32,
+        /// The edge before it with the same first end.
+        next: u32,
+    }
 }
 
 scratch! {
-    /// The marker's scratch slices.
-    MarkScratch of MarkLengths { marks: u64, wrong: u64 }
+    /// The marker's scratch slices: docs/SCRATCH.md.
+    MarkScratch of MarkLengths {
+        /// A bit for each edge met in the list.
+        marks: u64,
+        /// A bit for each detector that is wrong so far.
+        wrong: u64,
+    }
 }
 
 /// The least entries or rows of the decoder's scratch slices; all 0 for counts over the limits.
 pub fn lengths(detectors: usize, edges: usize) -> sys::Lengths {
-    // SAFETY: numbers alone cross.
+    // SAFETY: no pointer crosses.
     unsafe { sys::pavrenni_lengths_for(detectors, edges) }
 }
 
 /// The least lengths of the scratch slices of decomposition; all 0 for counts over the limits.
 pub fn decompose_lengths(detectors: usize, mechanisms: usize) -> sys::DecomposeLengths {
-    // SAFETY: numbers alone cross.
+    // SAFETY: no pointer crosses.
     unsafe { sys::pavrenni_decompose_lengths_for(detectors, mechanisms) }
 }
 
 /// The least lengths of the scratch slices of compiling; all 0 for counts over the limits.
 pub fn compile_lengths(detectors: usize, mechanisms: usize) -> sys::CompileLengths {
-    // SAFETY: numbers alone cross.
+    // SAFETY: no pointer crosses.
     unsafe { sys::pavrenni_compile_lengths_for(detectors, mechanisms) }
 }
 
 /// The least lengths of the marker's scratch slices; all 0 for counts over the limits.
 pub fn mark_lengths(detectors: usize, edges: usize) -> sys::MarkLengths {
-    // SAFETY: numbers alone cross.
+    // SAFETY: no pointer crosses.
     unsafe { sys::pavrenni_mark_lengths_for(detectors, edges) }
 }
 
-// ---- calls: each slice and vector handed over is borrowed for the call, those that it writes mutably
+// ---- calls
+//
+// What `sys` asks under "Safety" holds of each. A pointer is that of a slice or vector which is borrowed for the call,
+// and crosses with its length: it is aligned, never null (of an empty one neither), and valid for that length. What a
+// call writes is borrowed mutably, so it overlaps nothing else that is lent. A `bool` of Rust is 0 or 1. The calls keep
+// nothing, so that any number of them may run at a time.
 
 /// A call on a model in tables, with its own arguments after them.
 macro_rules! on_model {
     ($call:ident, $counts:expr, $model:expr, $($own:expr),* $(,)?) => {{
         let ([detectors, observables, mechanisms], model): ([usize; 3], LentTables) = ($counts, $model.into());
-        // SAFETY: every pointer comes from a borrowed slice or vector and crosses with its length.
+        // SAFETY: slices and vectors borrowed for the call, each with its own length; said above.
         unsafe {
             sys::$call(
                 detectors,
@@ -211,7 +252,7 @@ macro_rules! on_model {
 macro_rules! on_graph {
     ($call:ident, $graph:expr, $edges:expr, $($own:expr),* $(,)?) => {{
         let graph: LentGraph = $graph.into();
-        // SAFETY: every pointer comes from a borrowed slice or vector and crosses with its length.
+        // SAFETY: slices and vectors borrowed for the call, each with its own length; said above.
         unsafe {
             sys::$call(
                 graph.size($edges),
@@ -229,12 +270,13 @@ macro_rules! on_graph {
     }};
 }
 
-/// A call on a lent graph that decodes: what is written and the scratch slices come first, then the graph and what is read.
+/// A call on a lent graph that decodes: what is written and the scratch slices come first, then the graph and what is
+/// read.
 macro_rules! decoding {
     ($call:ident, $graph:expr, $edges:expr, $scratch:expr, $($own:expr),*; $($read:expr),* $(,)?) => {{
         let graph: LentGraph = $graph.into();
         let s: &mut Scratch = $scratch;
-        // SAFETY: every pointer comes from a borrowed slice or vector and crosses with its length.
+        // SAFETY: slices and vectors borrowed for the call, each with its own length; said above.
         unsafe {
             sys::$call(
                 $($own,)*
@@ -269,7 +311,9 @@ macro_rules! decoding {
     }};
 }
 
-/// `pavrenni_decompose`. The counts are of detectors, of observables and of mechanisms.
+/// `pavrenni_decompose`, into the tables of `out`. The counts are of detectors, of observables and of mechanisms. Codes
+/// are those of [`Model::decompose`](crate::Model::decompose), with 2 for short memory after the first 1; by each `out`
+/// is zero.
 pub fn decompose<'a>(counts: [usize; 3], model: impl Into<LentTables<'a>>, out: &mut Tables, scratch: &mut DecomposeScratch) -> sys::Model {
     on_model!(
         pavrenni_decompose,
@@ -313,6 +357,8 @@ pub fn decompose<'a>(counts: [usize; 3], model: impl Into<LentTables<'a>>, out: 
 }
 
 /// `pavrenni_compile`, into the four tables of `out`. The counts are of detectors, of observables and of mechanisms.
+/// Codes are those of [`Model::compile`](crate::Model::compile), with 2 for short memory after 1; by each the tables
+/// are zero.
 pub fn compile<'a>(counts: [usize; 3], model: impl Into<LentTables<'a>>, out: &mut Graph, scratch: &mut CompileScratch) -> sys::Graph {
     on_model!(
         pavrenni_compile,
@@ -335,7 +381,8 @@ pub fn compile<'a>(counts: [usize; 3], model: impl Into<LentTables<'a>>, out: &m
     )
 }
 
-/// `pavrenni_decode_shot`: XORs into the row and writes the list.
+/// `pavrenni_decode_shot`: XORs into the row and writes the list. Codes are those of
+/// [`Decoder::decode_shot`](crate::Decoder::decode_shot); by each the list is untouched too.
 pub fn decode_shot<'a>(
     graph: impl Into<LentGraph<'a>>,
     edges: usize,
@@ -360,7 +407,8 @@ pub fn decode_shot<'a>(
     )
 }
 
-/// `pavrenni_decode_batch`: a row a shot into `out`; the list is scratch.
+/// `pavrenni_decode_batch`: a row a shot into `out`; the list is scratch. Codes are those of
+/// [`Decoder::decode_batch_into`](crate::Decoder::decode_batch_into).
 pub fn decode_batch<'a>(
     graph: impl Into<LentGraph<'a>>,
     edges: usize,
@@ -385,7 +433,7 @@ pub fn decode_batch<'a>(
     )
 }
 
-/// `pavrenni_mark`: writes the row where the list passes.
+/// `pavrenni_mark`: writes the row where the list passes. Codes are those of [`mark`](crate::mark).
 pub fn mark<'a>(
     graph: impl Into<LentGraph<'a>>,
     edges: usize,
@@ -413,7 +461,8 @@ pub fn mark<'a>(
     )
 }
 
-/// `pavrenni_rate`: the rows decoded into `out`; the list is scratch.
+/// `pavrenni_rate`: the rows decoded into `out`; the list is scratch. Codes are those of
+/// [`Decoder::rate_into`](crate::Decoder::rate_into).
 pub fn rate<'a>(
     graph: impl Into<LentGraph<'a>>,
     edges: usize,

@@ -240,10 +240,8 @@ fn each_row_is_its_shot_alone() {
 fn errors_of_the_decoder() {
     let graph = islands();
     let mut decoder = Decoder::new(&graph);
-    let mut refused = |graph: &Graph, words: &[u64], shots, width| {
-        let error = decoder.decode_batch(graph, Packed { words, shots, width }).unwrap_err();
-        (error.code, error.at, error.detector, error.rounds)
-    };
+    let mut refused =
+        |graph: &Graph, words: &[u64], shots, width| refused_with(decoder.decode_batch(graph, Packed::new(words, shots, width)));
     assert_eq!(refused(&graph, &[END.0, STUCK], 2, 3), (Code::Stuck, Some(Item::Shot(1)), Some(1), None));
     assert_eq!(refused(&graph, &[END.0, 8], 2, 3), (Code::Padding, Some(Item::Shot(1)), None, None));
     assert_eq!(refused(&graph, &[], 2, 3), (Code::Length, None, None, None));

@@ -1,9 +1,9 @@
-//! Document 01's proved cases and limits.
+//! The rules of docs/RULES.md, case by case, and the limits.
 
 mod common;
 
 use common::*;
-use pavrenni::{mark, Code, Component, Decoder, Item, Marking, Model, BOUNDARY};
+use pavrenni::{mark, Code, Component, Decoder, Item, Marking, Mechanism, Model, BOUNDARY};
 
 #[test]
 fn example_shots() {
@@ -34,7 +34,7 @@ fn pair_edge_alone() {
 fn weights() {
     let graph = example_graph();
     assert_eq!(graph.edge_weight.iter().map(|w| w.to_bits()).collect::<Vec<_>>(), [0x3ff193ea7aad030a; 2]);
-    let weight = |p| Model { detectors: 1, observables: 0, mechanisms: vec![mechanism(p, &[0], &[])] }.compile().unwrap().edge_weight;
+    let weight = |p| Model { detectors: 1, observables: 0, mechanisms: vec![Mechanism::new(p, [0], [])] }.compile().unwrap().edge_weight;
     assert_eq!(weight(0.5), [0.0]);
     assert_eq!(weight(0.75), [0.0]);
     assert_eq!(weight(f64::from_bits(1)), [f64::INFINITY]);
@@ -45,7 +45,7 @@ fn weights() {
 #[test]
 fn shared_edges() {
     let compile = |first, second| {
-        let mechanisms = vec![mechanism(first, &[0, 1], &[0]), mechanism(second, &[0, 1], &[1])];
+        let mechanisms = vec![Mechanism::new(first, [0, 1], [0]), Mechanism::new(second, [0, 1], [1])];
         Model { detectors: 2, observables: 2, mechanisms }.compile().unwrap()
     };
     // equal probabilities keep the first observables, a greater one replaces them
@@ -59,7 +59,7 @@ fn shared_edges() {
 #[test]
 fn compiling_skips() {
     // no detectors, probability 0 with three detectors
-    let mechanisms = vec![mechanism(0.25, &[], &[0]), mechanism(0.0, &[0, 1, 2], &[]), mechanism(0.25, &[2], &[])];
+    let mechanisms = vec![Mechanism::new(0.25, [], [0]), Mechanism::new(0.0, [0, 1, 2], []), Mechanism::new(0.25, [2], [])];
     let graph = Model { detectors: 3, observables: 1, mechanisms }.compile().unwrap();
     assert_eq!((graph.edge_u, graph.edge_v, graph.edge_obs), (vec![2], vec![BOUNDARY], vec![0]));
 }
@@ -70,22 +70,21 @@ fn decomposing() {
     let mut model = Model {
         detectors: 3,
         observables: 1,
-        mechanisms: vec![mechanism(0.25, &[0], &[0]), mechanism(0.25, &[1, 2], &[]), mechanism(0.25, &[0, 1, 2], &[0])],
+        mechanisms: vec![Mechanism::new(0.25, [0], [0]), Mechanism::new(0.25, [1, 2], []), Mechanism::new(0.25, [0, 1, 2], [0])],
     };
     let covered = model.decompose().unwrap();
-    assert_eq!(covered.mechanisms, [mechanism(0.375, &[0], &[0]), mechanism(0.375, &[1, 2], &[])]);
+    assert_eq!(covered.mechanisms, [Mechanism::new(0.375, [0], [0]), Mechanism::new(0.375, [1, 2], [])]);
     assert_eq!((covered.detectors, covered.observables), (3, 1));
 
     // a suggestion goes to the last of two duplicates, or to a new mechanism; what is kept keeps its components
-    let of = |detectors: &[u32], observables: &[u32]| Component { detectors: detectors.to_vec(), observables: observables.to_vec() };
-    model.mechanisms[1] = mechanism(0.125, &[0], &[0]);
-    model.mechanisms[1].components = vec![of(&[0], &[]), of(&[], &[0])];
-    model.mechanisms[2].components = vec![of(&[0], &[0]), of(&[1, 2], &[])];
+    model.mechanisms[1] = Mechanism::new(0.125, [0], [0]);
+    model.mechanisms[1].components = vec![Component::new([0], []), Component::new([], [0])];
+    model.mechanisms[2].components = vec![Component::new([0], [0]), Component::new([1, 2], [])];
     let split = model.decompose().unwrap();
-    assert_eq!(split.mechanisms[0], mechanism(0.25, &[0], &[0]));
+    assert_eq!(split.mechanisms[0], Mechanism::new(0.25, [0], [0]));
     assert_eq!(split.mechanisms[1].probability, 0.125 * 0.75 + 0.25 * 0.875);
     assert_eq!(split.mechanisms[1].components, model.mechanisms[1].components);
-    assert_eq!(split.mechanisms[2], mechanism(0.25, &[1, 2], &[]));
+    assert_eq!(split.mechanisms[2], Mechanism::new(0.25, [1, 2], []));
     assert_eq!(split.mechanisms.len(), 3);
 
     // the empty model
@@ -95,7 +94,8 @@ fn decomposing() {
 
 #[test]
 fn limits() {
-    let detectors = |detectors| Model { detectors, observables: 128, mechanisms: vec![mechanism(0.25, &[detectors as u32 - 1], &[127])] };
+    let detectors =
+        |detectors| Model { detectors, observables: 128, mechanisms: vec![Mechanism::new(0.25, [detectors as u32 - 1], [127])] };
     let graph = detectors(4096).decompose().unwrap().compile().unwrap();
     let mut shot = vec![0; 64];
     shot[63] = 1 << 63;
@@ -105,7 +105,8 @@ fn limits() {
     assert_eq!(detectors(4097).decompose().unwrap_err().code, Code::Limit);
     assert_eq!(detectors(4097).compile().unwrap_err().code, Code::Limit);
 
-    let list = |entries| Model { detectors: 20, observables: 0, mechanisms: vec![mechanism(0.0, &(0..entries).collect::<Vec<_>>(), &[])] };
+    let list =
+        |entries| Model { detectors: 20, observables: 0, mechanisms: vec![Mechanism::new(0.0, (0..entries).collect::<Vec<_>>(), [])] };
     assert_eq!(list(16).compile().unwrap().edges(), 0);
     let long = list(17).compile().unwrap_err();
     assert_eq!((long.code, long.at), (Code::Index, Some(Item::Mechanism(0))));
@@ -117,7 +118,7 @@ fn limits() {
 
 #[test]
 fn no_detectors() {
-    let graph = Model { detectors: 0, observables: 1, mechanisms: vec![mechanism(0.25, &[], &[0])] }.compile().unwrap();
+    let graph = Model { detectors: 0, observables: 1, mechanisms: vec![Mechanism::new(0.25, [], [0])] }.compile().unwrap();
     let mut row = [UNTOUCHED];
     let shot = Decoder::new(&graph).decode_shot(&graph, &[], 0, &mut row).map(|shot| (shot.rounds, shot.list.len()));
     assert_eq!((shot, row), (Ok((0, 0)), [UNTOUCHED]));

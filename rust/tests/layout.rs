@@ -1,6 +1,7 @@
-//! `sys` and `include/pavrenni.h` declare the same structs and the same calls.
+//! `sys` and `include/pavrenni.h` declare the same structs and the same calls, and ask the same of a caller; the header
+//! has the version and the sentences of this crate.
 
-use pavrenni::sys;
+use pavrenni::{sys, Code};
 use std::fmt::Write;
 use std::mem::{offset_of, size_of};
 
@@ -100,19 +101,21 @@ fn in_header(call: &str) -> Vec<Parameter> {
     parameters(between(&header, &format!(" {call}("), ");"), parameter_in_c, &group)
 }
 
-/// The parameters that `sys` gives a call: those of its macro, then its own; a call that decodes has what it writes, its macro's, then what it reads.
+/// The parameters that `sys` gives a call: those of its macro, then its own; a call that decodes has what it writes,
+/// its macro's, then what it reads.
 fn in_sys(call: &str) -> Vec<Parameter> {
     let read = |text: &str| parameters(text, parameter_in_rust, &|_| None);
     if let Some(at) = DECLARED.find(&format!("pub fn {call}(")) {
         return read(between(&DECLARED[at..], "(", ")"));
     }
-    let own = between(DECLARED, &format!("!({call}("), ") ->");
-    let shared = |name: &str, from: &str| read(between(between(DECLARED, &format!("macro_rules! {name} {{"), "-> $answer;"), from, "$("));
-    if let Some((written, given)) = own.split_once(';') {
-        return [read(written), shared("decoding", "$($own: $kind,)*"), read(given)].concat();
+    let (before, rest) = DECLARED.split_once(&format!("\n    {call}(")).unwrap_or_else(|| panic!("no {call}"));
+    let own = &rest[..rest.find(") ->").unwrap()];
+    let name = before[..before.rfind("! {").unwrap()].rsplit('\n').next().unwrap();
+    let shared = |from: &str| read(between(between(DECLARED, &format!("macro_rules! {name} {{"), "-> $answer;"), from, "$("));
+    match own.split_once(';') {
+        Some((written, given)) => [read(written), shared("$($own: $kind,)*"), read(given)].concat(),
+        None => [shared("pub fn $name("), read(own)].concat(),
     }
-    let name = if DECLARED.contains(&format!("on_model!({call}(")) { "on_model" } else { "on_graph" };
-    [shared(name, "pub fn $name("), read(own)].concat()
 }
 
 #[test]
@@ -132,5 +135,49 @@ fn calls() {
     for (call, count) in calls {
         assert_eq!(in_sys(call), in_header(call), "{call}");
         assert_eq!(in_header(call).len(), count, "{call}");
+    }
+}
+
+/// The paragraph "Safety" of a file: its words, without the marks that begin the lines of a comment.
+fn safety(text: &str) -> String {
+    let lines = text.lines().map(|line| line.trim_start().trim_start_matches("//!").trim_start_matches('*'));
+    let words = lines.flat_map(str::split_whitespace).collect::<Vec<_>>().join(" ");
+    between(&words, "Safety. ", " at the same time.").to_string()
+}
+
+#[test]
+fn what_a_call_asks() {
+    assert_eq!(safety(HEADER), safety(DECLARED));
+    let asked = safety(DECLARED);
+    assert!(
+        asked.starts_with("A call asks this of its caller and nothing else.") && asked.ends_with("calls on memory of their own may run")
+    );
+}
+
+#[test]
+fn version() {
+    assert_eq!(between(HEADER, "#define PAVRENNI_VERSION \"", "\"\n"), env!("CARGO_PKG_VERSION"));
+}
+
+/// `NoCover` as `NO_COVER`.
+fn name_in_c(name: &str) -> String {
+    let letter = |(at, letter): (usize, char)| {
+        let gap = if at > 0 && letter.is_uppercase() { "_" } else { "" };
+        format!("{gap}{}", letter.to_ascii_uppercase())
+    };
+    name.char_indices().map(letter).collect()
+}
+
+#[test]
+fn codes() {
+    let texts = between(HEADER, "pavrenni_code_text(uint32_t code)", "\n}");
+    for code in Code::ALL {
+        let name = format!("PAVRENNI_{}", name_in_c(code.name()));
+        let (_, number) = HEADER.split_once(&format!(" {name} = ")).unwrap_or_else(|| panic!("no {name}"));
+        assert_eq!(number.split(|c: char| !c.is_ascii_digit()).next(), Some(&*code.number().to_string()), "{name}");
+        // a sentence may be in several literals, one after another
+        let literals = between(texts, &format!("case {name}:"), ";");
+        let sentence: String = literals.split('"').skip(1).step_by(2).collect();
+        assert_eq!(sentence, code.to_string(), "{name}");
     }
 }

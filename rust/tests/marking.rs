@@ -4,7 +4,7 @@ mod common;
 
 use common::*;
 use pavrenni::raw::{self, MarkScratch};
-use pavrenni::{mark, sys, Code, Error, Graph, Item, Marking};
+use pavrenni::{mark, sys, Code, Graph, Item, Marking};
 
 /// A call with all its memory.
 #[derive(Clone)]
@@ -157,10 +157,14 @@ fn results() {
     let mut row = [0; 2];
     assert_eq!(mark(&graph, &[0b110], 3, &[1], &mut row), Ok(Marking::Pass));
     assert_eq!(row, [8, 0]);
-    assert_eq!(mark(&graph, &[0b010], 3, &[1], &mut row), Ok(Marking::Differs { detector: 2 }));
-    let error = |code, at| Err(Error { code, at, detector: None, rounds: None, reason: None });
-    assert_eq!(mark(&graph, &[0b010], 3, &[1, 1], &mut row), error(Code::Edge, None));
-    assert_eq!(mark(&graph, &[8], 3, &[1], &mut row), error(Code::Padding, Some(Item::Shot(0))));
-    assert_eq!(mark(&graph, &[0], 3, &[], &mut []), error(Code::Short, None));
-    assert_eq!(mark(&Graph { edge_u: vec![0, 2], ..graph }, &[0], 3, &[], &mut row), error(Code::Index, Some(Item::Edge(1))));
+    assert_eq!((Marking::Pass.passed(), Marking::Pass.detector()), (true, None));
+    let differs = mark(&graph, &[0b010], 3, &[1], &mut row).unwrap();
+    assert!(matches!(differs, Marking::Differs { detector: 2, .. }));
+    assert_eq!((differs.passed(), differs.detector()), (false, Some(2)));
+    let mut refused = |graph: &Graph, shot, list: &[u32], words| refused_with(mark(graph, &[shot], 3, list, &mut row[..words]));
+    assert_eq!(refused(&graph, 0b010, &[1, 1], 2), (Code::Edge, None, None, None));
+    assert_eq!(refused(&graph, 8, &[1], 2), (Code::Padding, Some(Item::Shot(0)), None, None));
+    assert_eq!(refused(&graph, 0, &[], 0), (Code::Short, None, None, None));
+    assert_eq!(refused(&Graph { edge_u: vec![0, 2], ..graph }, 0, &[], 2), (Code::Index, Some(Item::Edge(1)), None, None));
+    assert_eq!(row, [8, 0]);
 }

@@ -4,7 +4,7 @@ mod common;
 
 use common::*;
 use pavrenni::raw::{self, CompileScratch, DecomposeScratch, Tables};
-use pavrenni::{sys, Code, Component, Error, Graph, Item, Mechanism, Model};
+use pavrenni::{sys, Code, Component, Graph, Item, Mechanism, Model};
 
 /// A triple that a single and a pair cover.
 fn covered() -> Model {
@@ -12,20 +12,16 @@ fn covered() -> Model {
         detectors: 3,
         observables: 1,
         mechanisms: vec![
-            Mechanism { components: vec![component(&[0], &[0])], ..mechanism(0.25, &[0], &[0]) },
-            mechanism(0.25, &[1, 2], &[]),
-            mechanism(0.25, &[0, 1, 2], &[0]),
+            Mechanism::new(0.25, [0], [0]).with_components([Component::new([0], [0])]),
+            Mechanism::new(0.25, [1, 2], []),
+            Mechanism::new(0.25, [0, 1, 2], [0]),
         ],
     }
 }
 
-fn component(detectors: &[u32], observables: &[u32]) -> Component {
-    Component { detectors: detectors.to_vec(), observables: observables.to_vec() }
-}
-
 /// A triple whose two components are new mechanisms.
 fn suggested() -> Model {
-    let triple = Mechanism { components: vec![component(&[0], &[0]), component(&[1, 2], &[])], ..mechanism(0.25, &[0, 1, 2], &[0]) };
+    let triple = Mechanism::new(0.25, [0, 1, 2], [0]).with_components([Component::new([0], [0]), Component::new([1, 2], [])]);
     Model { detectors: 3, observables: 1, mechanisms: vec![triple] }
 }
 
@@ -41,7 +37,7 @@ fn fill_tables(tables: &mut Tables) {
     fill_stale!(tables; probability, detector_counts, observable_counts, component_counts, component_detectors, component_observables, entries);
 }
 
-/// Changes of document 01's kind of model that both calls refuse, with code and mechanism. All have three mechanisms.
+/// Changes of a model that both calls refuse, with code and mechanism. All have three mechanisms.
 fn refused_models() -> Vec<(Model, u32, usize)> {
     let change = |code, at, change: fn(&mut Model)| {
         let mut model = covered();
@@ -70,7 +66,7 @@ fn refused_models() -> Vec<(Model, u32, usize)> {
         change(5, 1, |m| (m.detectors, m.mechanisms[1].detectors) = (4096, (0..17).collect())),
         change(5, 1, |m| (m.observables, m.mechanisms[1].observables) = (128, (0..17).collect())),
         change(5, 0, |m| (m.detectors, m.mechanisms[0].components[0].detectors) = (4096, (0..17).collect())),
-        change(5, 1, |m| m.mechanisms[1].components = vec![component(&[0], &[]); 17]),
+        change(5, 1, |m| m.mechanisms[1].components = vec![Component::new([0], []); 17]),
         // mechanism by mechanism, and of one 5 first
         change(4, 0, |m| (m.mechanisms[0].probability, m.mechanisms[1].detectors) = (1.0, vec![1, 1])),
         change(5, 1, |m| (m.mechanisms[1].probability, m.mechanisms[1].detectors) = (1.0, vec![1, 1])),
@@ -152,9 +148,9 @@ fn decomposed_into_exact_and_longer_tables() {
         let before = call.out.clone();
         let answer = call.run();
         assert_eq!(answer, sys::Model { code: 0, first: 0, second: 0, mechanisms: 2, components: 1, entries: 6 });
-        let mechanisms = call.out.mechanisms(2);
+        let mechanisms = call.out.mechanisms(2).unwrap();
         assert_eq!(mechanisms[0], Mechanism { probability: 0.375, ..covered().mechanisms[0].clone() });
-        assert_eq!(mechanisms[1], mechanism(0.375, &[1, 2], &[]));
+        assert_eq!(mechanisms[1], Mechanism::new(0.375, [1, 2], []));
         // past what was written, as before
         assert!(call.out.probability[2..].iter().all(|p| p.is_nan()));
         assert_eq!(call.out.detector_counts[2..], before.detector_counts[2..]);
@@ -201,7 +197,7 @@ fn decomposition_refuses_models() {
     Decomposing::of(&model).refused(6, 2);
     // an appended mechanism covers nothing
     let mut model = suggested();
-    model.mechanisms.push(mechanism(0.25, &[0, 1, 2], &[0]));
+    model.mechanisms.push(Mechanism::new(0.25, [0, 1, 2], [0]));
     let error = model.decompose().unwrap_err();
     assert_eq!((error.code, error.at), (Code::NoCover, Some(Item::Mechanism(1))));
 }
@@ -228,23 +224,23 @@ fn decomposition_refuses_where_no_place_is_left() {
     }
     // an earlier mechanism's 6 comes first
     let mut model = suggested();
-    model.mechanisms.insert(0, mechanism(0.25, &[0, 1, 2], &[]));
+    model.mechanisms.insert(0, Mechanism::new(0.25, [0, 1, 2], []));
     Decomposing::of(&model).refused(6, 0);
 }
 
 #[test]
 fn decomposition_over_16384_mechanisms() {
     // mechanism i flips detector i mod 4096 and observable i div 4096, so no two are equal
-    let single = |i: u32| mechanism(0.001, &[i % 4096], &[i / 4096]);
-    let triple = Mechanism { components: vec![component(&[0], &[0]), component(&[1, 2], &[])], ..mechanism(0.25, &[0, 1, 2], &[0]) };
+    let single = |i: u32| Mechanism::new(0.001, [i % 4096], [i / 4096]);
+    let triple = Mechanism::new(0.25, [0, 1, 2], [0]).with_components([Component::new([0], [0]), Component::new([1, 2], [])]);
     let mut model = Model { detectors: 4096, observables: 4, mechanisms: (0..16383).map(single).collect() };
     model.mechanisms.push(triple.clone());
     let full = model.decompose().unwrap();
     assert_eq!(full.mechanisms.len(), 16384);
-    assert_eq!(full.mechanisms[16383], mechanism(0.25, &[1, 2], &[]));
+    assert_eq!(full.mechanisms[16383], Mechanism::new(0.25, [1, 2], []));
     assert_eq!(full.compile().unwrap().edges(), 4097);
     // a second new mechanism is one too many
-    model.mechanisms[16383].components.push(component(&[2, 3], &[]));
+    model.mechanisms[16383].components.push(Component::new([2, 3], []));
     assert_eq!(model.decompose().unwrap_err().code, Code::Limit);
     model.mechanisms.push(single(0));
     assert_eq!(model.decompose().unwrap_err().code, Code::Limit);
@@ -281,7 +277,7 @@ fn compiled() -> Model {
     Model {
         detectors: 3,
         observables: 65,
-        mechanisms: vec![mechanism(0.25, &[0], &[64]), mechanism(0.25, &[1, 2], &[]), mechanism(0.125, &[0], &[])],
+        mechanisms: vec![Mechanism::new(0.25, [0], [64]), Mechanism::new(0.25, [1, 2], []), Mechanism::new(0.125, [0], [])],
     }
 }
 
@@ -384,7 +380,7 @@ fn compiling_refuses_models() {
     model.mechanisms[2].probability = -0.0;
     assert_eq!(model.compile().unwrap().edges(), 2);
     // per mechanism in order: 7 of the first before 5 of the second
-    model.mechanisms = vec![mechanism(0.25, &[0, 1, 2], &[]), mechanism(0.25, &[1, 1], &[])];
+    model.mechanisms = vec![Mechanism::new(0.25, [0, 1, 2], []), Mechanism::new(0.25, [1, 1], [])];
     Compiling::of(&model).refused(7, 0);
 }
 
@@ -406,9 +402,8 @@ fn compiling_over_stale_scratch() {
 fn models_are_refused_with_their_mechanism() {
     for (model, code, at) in refused_models() {
         let at = if code == 1 { None } else { Some(Item::Mechanism(at)) };
-        let error = Error { code: Code::of(code), at, detector: None, rounds: None, reason: None };
-        assert_eq!(model.decompose(), Err(error));
-        assert_eq!(model.compile(), Err(error));
+        assert_eq!(refused_with(model.decompose()), (Code::of(code), at, None, None));
+        assert_eq!(refused_with(model.compile()), (Code::of(code), at, None, None));
     }
 }
 
@@ -423,7 +418,7 @@ fn lists_past_a_byte() {
     for entries in [17, 255, 256, 257, 272, 300, 512, 4096] {
         let list: Vec<u32> = (0..entries).collect();
         let mut model =
-            Model { detectors: 4096, observables: 128, mechanisms: vec![mechanism(0.25, &[0], &[]), mechanism(0.25, &list, &[])] };
+            Model { detectors: 4096, observables: 128, mechanisms: vec![Mechanism::new(0.25, [0], []), Mechanism::new(0.25, &*list, [])] };
         assert_eq!(refused(&model), (Code::Index, at(1)), "{entries} detectors");
         // before 4 of the same mechanism, after a refusal of an earlier one
         model.mechanisms[1].probability = 2.0;
@@ -431,13 +426,13 @@ fn lists_past_a_byte() {
         model.mechanisms[0].probability = 2.0;
         assert_eq!(refused(&model), (Code::Probability, at(0)));
         // the other lists
-        model.mechanisms = vec![mechanism(0.25, &[], &list), mechanism(2.0, &[], &[])];
+        model.mechanisms = vec![Mechanism::new(0.25, [], &*list), Mechanism::new(2.0, [], [])];
         assert_eq!(refused(&model), (Code::Index, at(0)), "{entries} observables");
-        model.mechanisms[0] = Mechanism { components: vec![component(&list, &[])], ..mechanism(0.25, &[0], &[]) };
+        model.mechanisms[0] = Mechanism::new(0.25, [0], []).with_components([Component::new(&*list, [])]);
         assert_eq!(refused(&model), (Code::Index, at(0)), "a component of {entries} detectors");
-        model.mechanisms[0].components = vec![component(&[], &list)];
+        model.mechanisms[0].components = vec![Component::new([], &*list)];
         assert_eq!(refused(&model), (Code::Index, at(0)), "a component of {entries} observables");
-        model.mechanisms[0].components = vec![component(&[0], &[]); entries as usize];
+        model.mechanisms[0].components = vec![Component::new([0], []); entries as usize];
         assert_eq!(refused(&model), (Code::Index, at(0)), "{entries} components");
         // limits come first
         model.detectors = 4097;
@@ -448,6 +443,26 @@ fn lists_past_a_byte() {
 #[test]
 fn tables_read_back() {
     for model in [covered(), suggested(), example(), compiled(), Model::default()] {
-        assert_eq!(Tables::of(&model).mechanisms(model.mechanisms.len()), model.mechanisms);
+        let tables = Tables::of(&model);
+        assert_eq!(tables.mechanisms(model.mechanisms.len()).as_ref(), Some(&model.mechanisms));
+        assert_eq!(tables.mechanisms(model.mechanisms.len() + 1), None);
+        assert_eq!(tables.mechanisms(usize::MAX), None);
     }
+    // with an entry missing anywhere they are not held
+    for (name, shorten) in short_model_tables() {
+        let mut tables = Tables::of(&covered());
+        shorten(&mut tables);
+        assert_eq!(tables.mechanisms(3), None, "{name}");
+    }
+}
+
+#[test]
+fn models_are_written_down() {
+    let built = Model::new(3, 1)
+        .with_mechanisms([Mechanism::new(0.25, [0], [0]).with_components([Component::new([0], [0])])])
+        .with_mechanisms([Mechanism::new(0.25, [1, 2], []), Mechanism::new(0.25, vec![0, 1, 2], vec![0])]);
+    assert_eq!(built, covered());
+    let more = built.mechanisms[0].clone().with_components([Component::new([], [])]);
+    assert_eq!(more.components, [Component { detectors: vec![0], observables: vec![0] }, Component::default()]);
+    assert_eq!(Model::new(0, 0), Model::default());
 }

@@ -6,7 +6,7 @@ use common::*;
 use pavrenni::raw::{self, Scratch};
 use pavrenni::{sys, Code, Decoder, Graph, Item, BOUNDARY};
 
-/// A call with all its memory, on shot D1 of document 01's example.
+/// A call with all its memory, on shot D1 of the example model.
 #[derive(Clone)]
 struct Call {
     graph: Graph,
@@ -29,14 +29,14 @@ impl Call {
         raw::decode_shot(&self.graph, self.edges, &self.shot, self.width, &mut self.row, &mut self.list, &mut self.scratch)
     }
 
-    /// Refused so, with row and list untouched.
+    /// Refused so, with row and list untouched; hands back the rounds.
     #[track_caller]
-    fn refused(mut self, code: u32, first: usize, second: usize) -> sys::Shot {
+    fn refused(mut self, code: u32, first: usize, second: usize) -> u32 {
         let answer = self.run();
         assert_eq!((answer.code, answer.first, answer.second, answer.length), (code, first, second, 0));
         assert!(self.row.iter().all(|word| *word == UNTOUCHED), "the row was touched");
         assert!(self.list.iter().all(|edge| *edge == UNTOUCHED_ENTRY), "the list was touched");
-        answer
+        answer.rounds
     }
 }
 
@@ -142,15 +142,14 @@ fn stuck() {
         call.graph = pair_graph();
         call.edges = 1;
     };
-    let answer = changed(pair).refused(11, 0, 0);
-    assert_eq!(answer.rounds, 1);
+    assert_eq!(changed(pair).refused(11, 0, 0), 1);
     // before any round: detector 1 has no edge
     let alone = changed(|call| {
         pair(call);
         call.graph = Graph { edge_v: vec![BOUNDARY], ..pair_graph() };
     })
     .refused(11, 0, 1);
-    assert_eq!(alone.rounds, 0);
+    assert_eq!(alone, 0);
 }
 
 #[test]
@@ -188,8 +187,7 @@ fn errors_of_the_decoder() {
     let graph = example_graph();
     let mut decoder = Decoder::new(&graph);
     let refused = |decoder: &mut Decoder, graph: &Graph, shot: &[u64], width, row: &mut [u64]| {
-        let error = decoder.decode_shot(graph, shot, width, row).unwrap_err();
-        (error.code, error.at, error.detector, error.rounds)
+        refused_with(decoder.decode_shot(graph, shot, width, row))
     };
     assert_eq!(refused(&mut decoder, &graph, &[2], 2, &mut []), (Code::Short, None, None, None));
     assert_eq!(refused(&mut decoder, &graph, &[], 2, &mut [0]), (Code::Length, None, None, None));

@@ -1,20 +1,20 @@
-//! What the tests share: document 01's example, small graphs, and memory that shows what was written.
+//! What the tests share: the example of docs/RULES.md, small graphs, memory that shows what was written, and the
+//! example programs.
 #![allow(dead_code)]
 
+pub mod programs;
+
 use pavrenni::raw::{self, Scratch};
-use pavrenni::{Graph, Mechanism, Model, BOUNDARY};
+use pavrenni::{Code, Error, Graph, Item, Mechanism, Model, BOUNDARY};
+use std::fmt::Debug;
 
 /// What memory holds before a call that is to leave it untouched.
 pub const UNTOUCHED: u64 = 0x5a5a_5a5a_5a5a_5a5a;
 pub const UNTOUCHED_ENTRY: u32 = 0x5a5a_5a5a;
 
-pub fn mechanism(probability: f64, detectors: &[u32], observables: &[u32]) -> Mechanism {
-    Mechanism { probability, detectors: detectors.to_vec(), observables: observables.to_vec(), components: vec![] }
-}
-
-/// Document 01's example model.
+/// The example model of docs/RULES.md, "Frames".
 pub fn example() -> Model {
-    Model { detectors: 2, observables: 1, mechanisms: vec![mechanism(0.25, &[0], &[0]), mechanism(0.25, &[0, 1], &[])] }
+    Model::new(2, 1).with_mechanisms([Mechanism::new(0.25, [0], [0]), Mechanism::new(0.25, [0, 1], [])])
 }
 
 /// Its graph: edge 0 from detector 0 to the boundary, edge 1 from 0 to 1.
@@ -27,7 +27,8 @@ pub fn pair_graph() -> Graph {
     Graph { detectors: 2, observables: 1, edge_u: vec![0], edge_v: vec![1], edge_weight: vec![1.0], edge_obs: vec![0] }
 }
 
-/// Detector 0 at the boundary with observables 0 and 64; detectors 1 and 2 joined, with observable 3. Rows have two words.
+/// Detector 0 at the boundary with observables 0 and 64; detectors 1 and 2 joined, with observable 3. Rows have two
+/// words.
 pub fn islands() -> Graph {
     Graph {
         detectors: 3,
@@ -55,6 +56,13 @@ pub fn line(detectors: usize, observables: usize) -> Graph {
         graph.edge_obs[e * words + e / 64] |= 1 << (e % 64);
     }
     graph
+}
+
+/// The code of a refusal and the values that it names.
+#[track_caller]
+pub fn refused_with<T: Debug>(answer: Result<T, Error>) -> (Code, Option<Item>, Option<usize>, Option<u32>) {
+    let error = answer.unwrap_err();
+    (error.code, error.at, error.detector, error.rounds)
 }
 
 /// Numbers that look random, the same in each run.
