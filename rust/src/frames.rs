@@ -282,6 +282,7 @@ pub struct RecordedShot {
 
 /// The shots behind a model, each read when it is asked for. A refusal has code 3, the line and the reason (no line
 /// where the text ends after a frame 05), and is the last.
+#[must_use]
 #[derive(Clone, Debug)]
 pub struct Shots<'a> {
     frames: Frames<'a>,

@@ -213,16 +213,16 @@ pub fn mark_lengths(detectors: usize, edges: usize) -> sys::MarkLengths {
 
 // ---- calls
 //
-// What `sys` asks under "Safety" holds of each. A pointer is that of a slice or vector which is borrowed for the call,
-// and crosses with its length: it is aligned, never null (of an empty one neither), and valid for that length. What a
-// call writes is borrowed mutably, so it overlaps nothing else that is lent. A `bool` of Rust is 0 or 1. The calls keep
-// nothing, so that any number of them may run at a time.
+// SAFETY, of each: what `sys` asks of a caller holds. A pointer is that of a slice or vector which is borrowed for the
+// call, and crosses with its length: so it is aligned, never null (of an empty one neither), and valid for that length.
+// What a call writes is borrowed mutably, so it overlaps nothing else that is lent. A `bool` of Rust is 0 or 1. Nothing
+// is kept, so calls that borrow other memory may run at the same time.
 
 /// A call on a model in tables, with its own arguments after them.
 macro_rules! on_model {
     ($call:ident, $counts:expr, $model:expr, $($own:expr),* $(,)?) => {{
         let ([detectors, observables, mechanisms], model): ([usize; 3], LentTables) = ($counts, $model.into());
-        // SAFETY: slices and vectors borrowed for the call, each with its own length; said above.
+        // SAFETY: pointers and lengths of slices and vectors borrowed for the call, as said above.
         unsafe {
             sys::$call(
                 detectors,
@@ -252,7 +252,7 @@ macro_rules! on_model {
 macro_rules! on_graph {
     ($call:ident, $graph:expr, $edges:expr, $($own:expr),* $(,)?) => {{
         let graph: LentGraph = $graph.into();
-        // SAFETY: slices and vectors borrowed for the call, each with its own length; said above.
+        // SAFETY: pointers and lengths of slices and vectors borrowed for the call, as said above.
         unsafe {
             sys::$call(
                 graph.size($edges),
@@ -276,7 +276,7 @@ macro_rules! decoding {
     ($call:ident, $graph:expr, $edges:expr, $scratch:expr, $($own:expr),*; $($read:expr),* $(,)?) => {{
         let graph: LentGraph = $graph.into();
         let s: &mut Scratch = $scratch;
-        // SAFETY: slices and vectors borrowed for the call, each with its own length; said above.
+        // SAFETY: pointers and lengths of slices and vectors borrowed for the call, as said above.
         unsafe {
             sys::$call(
                 $($own,)*
