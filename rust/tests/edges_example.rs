@@ -14,10 +14,10 @@ fn csv(model: &str) -> Output {
     run("edges", &["--csv", "model"], &[("model", model)], "")
 }
 
-/// D0 with observables 0 and 64; D0 with D10, unlikely beyond all weight; D2, D3 and D4 together, with D2 alone and D3
+/// D0 with observables 1 and 64; D0 with D10, unlikely beyond all weight; D2, D3 and D4 together, with D2 alone and D3
 /// with D4 as components; D10 with observable 5, as likely as not. 65 observables.
 const WIDE: &str = "01000b0041
-023fd00000000000000102000000000040
+023fd00000000000000102000000010040
 02000000000000000102000000000a
 023fd00000000000000300000200030004
 0301000002
@@ -45,7 +45,7 @@ edge  u         v              weight  observables
         &edges(WIDE),
         "\
 edge   u         v              weight  observables
-   0   0  boundary  1.0986122886681096  0 64
+   0   0  boundary  1.0986122886681096  1 64
    1   0        10                 inf
    2  10  boundary                   0  5
    3   2  boundary  1.0986122886681096
@@ -62,7 +62,7 @@ fn comma_separated() {
     writes(&run("edges", &["-", "--csv"], &[], RECORDED), expected);
     let output = csv(WIDE);
     assert!(text(&output.stdout)
-        .starts_with("edge,u,v,weight,observables\n0,0,boundary,1.0986122886681096,0 64\n1,0,10,inf,\n2,10,boundary,0,5\n"));
+        .starts_with("edge,u,v,weight,observables\n0,0,boundary,1.0986122886681096,1 64\n1,0,10,inf,\n2,10,boundary,0,5\n"));
     writes(&csv("0100000000\n04\n"), "edge,u,v,weight,observables\n");
 }
 
