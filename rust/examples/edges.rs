@@ -33,7 +33,8 @@ fn run(arguments: &[String], out: &mut Out) -> Result<(), Wrong> {
     let (model, _) = frames::read_model(&text).map_err(in_file(name))?;
     let graph = graph_of(&model).map_err(in_file(name))?;
     let lines: Vec<Line> = [NAMES.map(String::from)].into_iter().chain((0..graph.edges()).map(|edge| line(&graph, edge))).collect();
-    if flags.is_empty() { write_aligned(&lines, out) } else { write_csv(&lines, out) }.map_err(unwritten)
+    let written = if flags.is_empty() { write_aligned(&lines, out) } else { write_csv(&lines, out) };
+    written.map_err(unwritten)
 }
 
 fn line(graph: &Graph, edge: usize) -> Line {

@@ -79,6 +79,15 @@ fn passes_with_the_wrong_observable() {
 }
 
 #[test]
+fn a_group_that_hands_in_the_decoders_lists() {
+    let memory = include_str!("../../examples/memory_d5.in");
+    let answered = include_str!("../../examples/memory_d5.out");
+    let lists: String = answered.split_inclusive('\n').filter(|line| line.starts_with("86")).collect();
+    let group = "group: 4 failures of 300 passed, rate 0.013333333333333334";
+    assert_eq!(rates(memory, &lists), (group.into(), "decoder: rate 0.013333333333333334".into()));
+}
+
+#[test]
 fn no_shots() {
     let model: String = RECORDED.lines().take(4).map(|line| format!("{line}\n")).collect();
     writes(&run(&model, ""), "shots 0: Pass 0, Differs 0, refused 0\ngroup: none passed, no rate\ndecoder: rate 0\n");
