@@ -58,14 +58,16 @@ fn any_recording_reads_back() {
     assert_eq!(frames::read(b"0100000000\n04\n05\n06\n05\n06"), Ok(empty));
 }
 
+/// Refused at this line, 0 for the end of the input.
+#[track_caller]
+fn refused(text: &str, line: usize, reason: &str) {
+    let error = frames::read(text.as_bytes()).unwrap_err();
+    let at = if line == 0 { None } else { Some(Item::Line(line)) };
+    assert_eq!((error.code, error.at, error.reason), (Code::Frame, at, Some(reason)), "{text:?}");
+}
+
 #[test]
-fn wrong_frames() {
-    let refused = |text: &str, line: usize, reason: &str| {
-        let error = frames::read(text.as_bytes()).unwrap_err();
-        let at = if line == 0 { None } else { Some(Item::Line(line)) };
-        assert_eq!((error.code, error.at, error.reason), (Code::Frame, at, Some(reason)), "{text:?}");
-    };
-    // digits
+fn wrong_digits_and_kinds() {
     refused("01000200010\n04", 1, "the number of digits is odd");
     refused("010002000A\n04", 1, "a digit is not lower-case hexadecimal");
     refused("0100020001\n04\n05000000000000000g", 3, "a digit is not lower-case hexadecimal");
@@ -78,7 +80,10 @@ fn wrong_frames() {
     refused("0000020001", 1, "a model begins with frame 01");
     refused("0100020001\n07", 2, "no frame of this input has this kind");
     refused("0100020001\n04\n86000200010000", 3, "no frame of this input has this kind");
-    // length
+}
+
+#[test]
+fn wrong_lengths_and_orders() {
     refused("01000200", 1, "the frame is too short");
     refused("010002000100", 1, "the frame is too long");
     refused("0100020001\n0400", 2, "the frame is too long");
