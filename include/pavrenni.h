@@ -1,20 +1,24 @@
 /* Pavrenni: a verified union-find decoder for quantum error correction. The calls of the static library libserver.a.
  *
  * A slice crosses as a pointer and its length in entries; where an entry is an array, a row of a table, as a pointer to
- * the rows and their number. A call asks one thing of its caller: that each pointer is aligned, is not null (of a slice
- * of length 0 too), is valid for its length, and that what it writes overlaps nothing else that is lent. Counts,
- * lengths, tables and lists are checked, and what is wrong is refused with a code.
+ * the rows and their number.
  *
- * An answer is a struct by value. Its code is 0, or a row of document 01's marking sheet; `first` and `second` are the
- * values that the row names, in its order, and 0 where it names none:
+ * Safety. A call asks this of its caller and nothing else. Each pointer is aligned for its entries and not null, also
+ * where the length is 0. It is valid for its length: for reading, and for writing where the call writes. What a call
+ * writes overlaps nothing else that it is lent. The entries of a `bool` slice are 0 or 1, in scratch too. Counts,
+ * lengths, tables and lists are checked, and what is wrong is refused with a code. Calls are reentrant: nothing is kept
+ * between them, and calls on memory of their own may run at the same time.
+ *
+ * An answer is a struct by value. Its code is 0, or one of docs/RULES.md, "Refusals"; `first` and `second` are the
+ * values that stand beside it there, in their order, and 0 where there are none:
  *     4, 5 (a mechanism, or an edge of a lent graph), 6, 7 (a mechanism), 9 (a shot): `first`
  *     11: `first` is the shot, `second` the detector
  *
- * Rows: bit b of a row is bit b mod 64 of word b div 64. A row of width n has words(n) words, n / 64 rounded up; rows of
- * several shots follow each other. D is the number of detectors, O of observables, M of mechanisms, E of edges.
+ * Rows: bit b of a row is bit b mod 64 of word b div 64. A row of width n has words(n) words, n / 64 rounded up; rows
+ * of several shots follow each other. D is the number of detectors, O of observables, M of mechanisms, E of edges.
  *
- * Limits: D to 4,096, O to 128, M and E to 16,384, shots to 16,777,216 (1 if over); 16 entries a list and 16 components a
- * mechanism (5 if over).
+ * Limits: D to 4,096, O to 128, M and E to 16,384, shots to 16,777,216 (1 if over); 16 entries a list and 16 components
+ * a mechanism (5 if over).
  *
  * Slices of outputs, lists and scratch are refused with 2 if shorter than what is said here; a longer one is taken, and
  * what is past the words written is untouched. Scratch: ask the `_lengths_for` functions. What scratch holds before a
@@ -26,6 +30,29 @@
 #include <stdbool.h>
 #include <stddef.h>
 #include <stdint.h>
+
+/* The version of the library that this header belongs to. */
+#define PAVRENNI_VERSION "0.1.0"
+
+/* PAVRENNI_EMPTY: what to pass for a slice of length 0, of any type. It is not null, and aligned for every entry. */
+static inline void *pavrenni_empty(void)
+{
+    static union {
+        uint64_t word;
+        double real;
+    } place;
+    return &place;
+}
+
+#ifdef __cplusplus
+/* C++ converts no void * by itself */
+struct pavrenni_empty_slice {
+    template <typename Entry> operator Entry *() const { return static_cast<Entry *>(pavrenni_empty()); }
+};
+#define PAVRENNI_EMPTY (pavrenni_empty_slice())
+#else
+#define PAVRENNI_EMPTY (pavrenni_empty())
+#endif
 
 #ifdef __cplusplus
 extern "C" {
@@ -52,6 +79,52 @@ enum pavrenni_code {
     PAVRENNI_SHAPE = 12,        /* the shape of the true observables; the rows are done */
     PAVRENNI_EDGE = 13          /* an edge of a list is unknown or repeated */
 };
+
+/* What a code says, in a sentence: the words of the Rust client. */
+static inline const char *pavrenni_code_text(uint32_t code)
+{
+    switch (code) {
+    case PAVRENNI_DONE: return "done";
+    case PAVRENNI_LIMIT: return "a count is over its limit, or the decomposed model finds no place";
+    case PAVRENNI_SHORT: return "a table, list, output or scratch slice is too short";
+    case PAVRENNI_FRAME: return "frame digits, kind, length or order are wrong";
+    case PAVRENNI_PROBABILITY: return "the probability is not in [0, 1), or the weight is neither from 0 to 1,024 nor infinity";
+    case PAVRENNI_INDEX: return "a list is not strictly ascending, out of range or too long, or an edge's ends or observables are out of range";
+    case PAVRENNI_NO_COVER: return "no choice of smaller mechanisms covers it";
+    case PAVRENNI_NOT_GRAPHLIKE: return "it has over two detectors";
+    case PAVRENNI_LENGTH: return "the row data has the wrong length";
+    case PAVRENNI_PADDING: return "a bit past the width is set";
+    case PAVRENNI_WIDTH: return "the width differs from the number of detectors";
+    case PAVRENNI_STUCK: return "no set of edges explains it";
+    case PAVRENNI_SHAPE: return "the true observables have the wrong shape";
+    case PAVRENNI_EDGE: return "an edge of the list is unknown or repeated";
+    default: return "a refusal that this header does not know";
+    }
+}
+
+/* The name that a code has above, "unknown" where it has none. */
+static inline const char *pavrenni_code_name(uint32_t code)
+{
+#define PAVRENNI_NAMED(name) case name: return #name
+    switch (code) {
+    PAVRENNI_NAMED(PAVRENNI_DONE);
+    PAVRENNI_NAMED(PAVRENNI_LIMIT);
+    PAVRENNI_NAMED(PAVRENNI_SHORT);
+    PAVRENNI_NAMED(PAVRENNI_FRAME);
+    PAVRENNI_NAMED(PAVRENNI_PROBABILITY);
+    PAVRENNI_NAMED(PAVRENNI_INDEX);
+    PAVRENNI_NAMED(PAVRENNI_NO_COVER);
+    PAVRENNI_NAMED(PAVRENNI_NOT_GRAPHLIKE);
+    PAVRENNI_NAMED(PAVRENNI_LENGTH);
+    PAVRENNI_NAMED(PAVRENNI_PADDING);
+    PAVRENNI_NAMED(PAVRENNI_WIDTH);
+    PAVRENNI_NAMED(PAVRENNI_STUCK);
+    PAVRENNI_NAMED(PAVRENNI_SHAPE);
+    PAVRENNI_NAMED(PAVRENNI_EDGE);
+    default: return "unknown";
+    }
+#undef PAVRENNI_NAMED
+}
 
 /* ---- answers */
 
@@ -183,7 +256,7 @@ struct pavrenni_size {
  * of each detector begin in adj (edge, other end, which is D for the boundary). tree (parent, boundary edge) and flags
  * (lit, known, odd, hot, free, three to spare): a row a detector. stacks: six lists side by side (defects, seen,
  * active, front, order edge, order parent). links: the edges of a round (touched, count, fresh, one to spare). growth
- * and sat: an entry an edge. Every bool is 0 or 1, those to spare too. docs/SCRATCH.md says what each is for. */
+ * and sat: an entry an edge. docs/SCRATCH.md says what each is for. */
 #define PAVRENNI_SCRATCH                                                                                               \
     uint32_t *adj_offsets, size_t adj_offsets_len,                                                                     \
     uint32_t (*adj)[2], size_t adj_len,                                                                                \
@@ -199,7 +272,11 @@ struct pavrenni_size {
 /* The decomposed model, into output tables that are no shorter than the tables given need to be. Each component may
  * become a mechanism: M and the number of components together are always places enough. Scratch:
  * pavrenni_decompose_lengths_for(D, M). Refused in this order: 1, 2, then 5 and 4 by mechanism, then 6, or 1 where a
- * component's new mechanism finds no place. */
+ * component's new mechanism finds no place.
+ *
+ * The search for a cover takes time exponential in the size of a mechanism of many detectors whose pieces differ in
+ * observables alone: bound the size of models from a source that is not trusted, or decompose them in a process that
+ * can be ended. */
 struct pavrenni_model pavrenni_decompose(
     PAVRENNI_MODEL,
     double *out_probability, size_t out_probability_len,
@@ -232,8 +309,8 @@ struct pavrenni_graph pavrenni_compile(
     uint32_t *first, size_t first_len,
     uint32_t *next, size_t next_len);
 
-/* One shot of width D: XORs the observables of its correction into the row (words(O)) and writes the list (D entries), of
- * which the answer has the length. Scratch: pavrenni_lengths_for(D, E). Refused in this order: 1, 2, then 5 and 4 by
+/* One shot of width D: XORs the observables of its correction into the row (words(O)) and writes the list (D entries),
+ * of which the answer has the length. Scratch: pavrenni_lengths_for(D, E). Refused in this order: 1, 2, then 5 and 4 by
  * edge, 8, 9, 10, 11; then row and list are untouched. */
 struct pavrenni_shot pavrenni_decode_shot(
     uint64_t *row, size_t row_len,
@@ -243,8 +320,8 @@ struct pavrenni_shot pavrenni_decode_shot(
     const uint64_t *shot, size_t shot_len,
     size_t width);
 
-/* Shots of width D: a row of words(O) a shot into `out`. The list (D entries) is scratch here. Refused as one shot is; by
- * 11 the earlier rows are done, this row is zero, later ones are untouched, by the others all are. */
+/* Shots of width D: a row of words(O) a shot into `out`. The list (D entries) is scratch here. Refused as one shot is;
+ * by 11 the earlier rows are done, this row is zero, later ones are untouched, by the others all are. */
 struct pavrenni_batch pavrenni_decode_batch(
     uint64_t *out, size_t out_len,
     uint32_t *list, size_t list_len,
@@ -266,8 +343,8 @@ struct pavrenni_mark pavrenni_mark(
     uint64_t *wrong, size_t wrong_len);
 
 /* The logical error rate: shots of which any predicted observable differs from the true ones, divided by shots; 0 where
- * there are no shots or no observables. The predicted rows are left in `out`, as by a batch. Refused in this order: 1, 2,
- * then 5 and 4 by edge, 8 and 9 of the shots, 8 and 9 of the true observables, 10, 11, and 12 with the rows done. */
+ * there are no shots or no observables. The predicted rows are left in `out`, as by a batch. Refused in this order: 1,
+ * 2, then 5 and 4 by edge, 8 and 9 of the shots, 8 and 9 of the true observables, 10, 11, and 12 with the rows done. */
 struct pavrenni_rate pavrenni_rate(
     uint64_t *out, size_t out_len,
     uint32_t *list, size_t list_len,

@@ -1,5 +1,5 @@
-/* Prints the size of each struct of pavrenni.h, and place and size of each of its fields. tests/c/layout.txt has what it
- * must print, and the Rust client is held to the same file. */
+/* Prints the size of each struct of pavrenni.h, and place and size of each of its fields. tests/c/layout.txt has what
+ * it must print, and the Rust client is held to the same file. */
 #include "pavrenni.h"
 
 #include <stdio.h>
