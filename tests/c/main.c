@@ -1,60 +1,22 @@
-/* Document 01's example through every call of the library, and refusals of each. Prints what is not as it must be. */
-#include "pavrenni.h"
+/* The example of docs/RULES.md, "Frames", through every call of the library, and refusals of each. */
+#include "check.h"
+#include "pavrenni_slices.h"
 
-#include <stdio.h>
 #include <stdlib.h>
 #include <string.h>
 
-static int failures = 0;
-
-#define CHECK(holds) \
-    do { \
-        if (!(holds)) { \
-            fprintf(stderr, "%s:%d: not so: %s\n", __FILE__, __LINE__, #holds); \
-            failures++; \
-        } \
-    } while (0)
-
 #define UNTOUCHED UINT64_C(0x5a5a5a5a5a5a5a5a)
 
-/* ---- scratch, allocated by the lengths that the library tells */
+/* ---- scratch of which every byte is 1, which is stale in each table and a bool in each bool slice */
 
-typedef uint32_t row_of_2[2], row_of_4[4], row_of_6[6];
-typedef bool row_of_flags[8];
-
-#define DECODER_SLICES(SLICE) \
-    SLICE(adj_offsets, uint32_t) SLICE(adj, row_of_2) SLICE(tree, row_of_2) SLICE(flags, row_of_flags) \
-    SLICE(stacks, row_of_6) SLICE(links, row_of_4) SLICE(growth, double) SLICE(sat, bool)
-
-#define DECOMPOSE_SLICES(SLICE) \
-    SLICE(starts, uint32_t) SLICE(before, uint32_t) SLICE(last_of, uint32_t) SLICE(first_of, uint32_t) \
-    SLICE(next_of, uint32_t) SLICE(numbers, uint32_t) SLICE(masks, uint16_t) SLICE(words0, uint64_t) \
-    SLICE(words1, uint64_t) SLICE(earlier, uint32_t)
-
-#define COMPILE_SLICES(SLICE) SLICE(edge_p, double) SLICE(first, uint32_t) SLICE(next, uint32_t)
-
-#define MARK_SLICES(SLICE) SLICE(marks, uint64_t) SLICE(wrong, uint64_t)
-
-#define MEMBER(name, type) type *name;
-#define TAKE(name, type) s.name = memory(s.lengths.name * sizeof(type));
-#define GIVE_BACK(name, type) free(s.name);
-/* pointer and length, as arguments of a call that follow others */
-#define LENT(name, type) , s.name, s.lengths.name
-
-struct decoder_scratch { DECODER_SLICES(MEMBER) struct pavrenni_lengths lengths; };
-struct decompose_scratch { DECOMPOSE_SLICES(MEMBER) struct pavrenni_decompose_lengths lengths; };
-struct compile_scratch { COMPILE_SLICES(MEMBER) struct pavrenni_compile_lengths lengths; };
-struct mark_scratch { MARK_SLICES(MEMBER) struct pavrenni_mark_lengths lengths; };
-
-/* never null; every byte 1, which is stale in each table and a bool in each bool slice */
-static void *memory(size_t bytes)
-{
-    void *taken = malloc(bytes + 1);
-    if (taken == NULL) {
-        abort();
-    }
-    return memset(taken, 1, bytes + 1);
-}
+#define STALE(s, name, type) memset((s)->name, 1, (s)->lengths.name * sizeof(type))
+#define TAKE(kind, KIND, s, detectors, others) \
+    do { \
+        if (!pavrenni_take_##kind(s, detectors, others)) { \
+            abort(); \
+        } \
+        PAVRENNI_##KIND##_SLICES(STALE, ;, s); \
+    } while (0)
 
 /* ---- a model, a graph and the calls on them */
 
@@ -78,7 +40,8 @@ struct graph {
 #define MODEL(m) \
     (m)->detectors, (m)->observables, (m)->mechanisms, (m)->probability, (m)->mechanisms, (m)->detector_counts, \
     (m)->mechanisms, (m)->observable_counts, (m)->mechanisms, (m)->component_counts, (m)->mechanisms, \
-    (m)->component_detectors, (m)->components, (m)->component_observables, (m)->components, (m)->entries, (m)->entry_count
+    (m)->component_detectors, (m)->components, (m)->component_observables, (m)->components, (m)->entries, \
+    (m)->entry_count
 
 #define GRAPH(g) \
     (struct pavrenni_size){(g)->detectors, (g)->observables, (g)->edges}, (g)->edge_u, (g)->edges, (g)->edge_v, \
@@ -86,15 +49,14 @@ struct graph {
 
 static struct pavrenni_model decompose(const struct model *model, struct model *out)
 {
-    struct decompose_scratch s;
-    s.lengths = pavrenni_decompose_lengths_for(model->detectors, model->mechanisms);
-    DECOMPOSE_SLICES(TAKE)
+    struct pavrenni_decompose_scratch s;
+    TAKE(decompose, DECOMPOSE, &s, model->detectors, model->mechanisms);
     memset(out, 1, sizeof *out);
     struct pavrenni_model answer = pavrenni_decompose(
         MODEL(model), out->probability, PLACES, out->detector_counts, PLACES, out->observable_counts, PLACES,
         out->component_counts, PLACES, out->component_detectors, PLACES, out->component_observables, PLACES,
-        out->entries, 4 * PLACES DECOMPOSE_SLICES(LENT));
-    DECOMPOSE_SLICES(GIVE_BACK)
+        out->entries, 4 * PLACES, PAVRENNI_LEND_DECOMPOSE(&s));
+    pavrenni_give_back_decompose(&s);
     out->detectors = model->detectors;
     out->observables = model->observables;
     out->mechanisms = answer.mechanisms;
@@ -105,28 +67,27 @@ static struct pavrenni_model decompose(const struct model *model, struct model *
 
 static struct pavrenni_graph compile(const struct model *model, struct graph *out)
 {
-    struct compile_scratch s;
-    s.lengths = pavrenni_compile_lengths_for(model->detectors, model->mechanisms);
-    COMPILE_SLICES(TAKE)
+    struct pavrenni_compile_scratch s;
+    TAKE(compile, COMPILE, &s, model->detectors, model->mechanisms);
     memset(out, 1, sizeof *out);
     struct pavrenni_graph answer = pavrenni_compile(
-        MODEL(model), out->edge_u, PLACES, out->edge_v, PLACES, out->edge_weight, PLACES, out->edge_obs,
-        PLACES COMPILE_SLICES(LENT));
-    COMPILE_SLICES(GIVE_BACK)
+        MODEL(model), out->edge_u, PLACES, out->edge_v, PLACES, out->edge_weight, PLACES, out->edge_obs, PLACES,
+        PAVRENNI_LEND_COMPILE(&s));
+    pavrenni_give_back_compile(&s);
     out->detectors = model->detectors;
     out->observables = model->observables;
     out->edges = answer.edges;
     return answer;
 }
 
-static struct pavrenni_shot decode_shot(const struct graph *graph, uint64_t shot, size_t width, uint64_t *row, uint32_t *list)
+static struct pavrenni_shot decode_shot(
+    const struct graph *graph, uint64_t shot, size_t width, uint64_t *row, uint32_t *list)
 {
-    struct decoder_scratch s;
-    s.lengths = pavrenni_lengths_for(graph->detectors, graph->edges);
-    DECODER_SLICES(TAKE)
+    struct pavrenni_decoder_scratch s;
+    TAKE(decoder, DECODER, &s, graph->detectors, graph->edges);
     struct pavrenni_shot answer =
-        pavrenni_decode_shot(row, 1, list, 2 DECODER_SLICES(LENT), GRAPH(graph), &shot, 1, width);
-    DECODER_SLICES(GIVE_BACK)
+        pavrenni_decode_shot(row, 1, list, 2, PAVRENNI_LEND_DECODER(&s), GRAPH(graph), &shot, 1, width);
+    pavrenni_give_back_decoder(&s);
     return answer;
 }
 
@@ -140,28 +101,27 @@ struct asked {
 
 static struct pavrenni_batch decode_batch(const struct graph *graph, const struct asked *a, uint64_t *out)
 {
-    struct decoder_scratch s;
+    struct pavrenni_decoder_scratch s;
     uint32_t list[2];
-    s.lengths = pavrenni_lengths_for(graph->detectors, graph->edges);
-    DECODER_SLICES(TAKE)
+    TAKE(decoder, DECODER, &s, graph->detectors, graph->edges);
     s.lengths.sat -= a->lacks;
     struct pavrenni_batch answer = pavrenni_decode_batch(
-        out, a->out_len, list, a->list_len DECODER_SLICES(LENT), GRAPH(graph), a->rows, a->rows_len, a->shots, a->width);
-    DECODER_SLICES(GIVE_BACK)
+        out, a->out_len, list, a->list_len, PAVRENNI_LEND_DECODER(&s), GRAPH(graph), a->rows, a->rows_len, a->shots,
+        a->width);
+    pavrenni_give_back_decoder(&s);
     return answer;
 }
 
 static struct pavrenni_rate rate(const struct graph *graph, const struct asked *a, uint64_t *out)
 {
-    struct decoder_scratch s;
+    struct pavrenni_decoder_scratch s;
     uint32_t list[2];
-    s.lengths = pavrenni_lengths_for(graph->detectors, graph->edges);
-    DECODER_SLICES(TAKE)
+    TAKE(decoder, DECODER, &s, graph->detectors, graph->edges);
     s.lengths.sat -= a->lacks;
     struct pavrenni_rate answer = pavrenni_rate(
-        out, a->out_len, list, a->list_len DECODER_SLICES(LENT), GRAPH(graph), a->rows, a->rows_len, a->shots, a->width,
-        a->truth, a->truth_len, a->true_shots, a->true_width);
-    DECODER_SLICES(GIVE_BACK)
+        out, a->out_len, list, a->list_len, PAVRENNI_LEND_DECODER(&s), GRAPH(graph), a->rows, a->rows_len, a->shots,
+        a->width, a->truth, a->truth_len, a->true_shots, a->true_width);
+    pavrenni_give_back_decoder(&s);
     return answer;
 }
 
@@ -171,19 +131,20 @@ struct judged {
     size_t shot_len, width, row_len, lacks;
 };
 
-static struct pavrenni_mark judge(const struct graph *graph, const struct judged *j, const uint32_t *list, size_t length, uint64_t *row)
+static struct pavrenni_mark judge(
+    const struct graph *graph, const struct judged *j, const uint32_t *list, size_t length, uint64_t *row)
 {
-    struct mark_scratch s;
-    s.lengths = pavrenni_mark_lengths_for(graph->detectors, graph->edges);
-    MARK_SLICES(TAKE)
+    struct pavrenni_mark_scratch s;
+    TAKE(mark, MARK, &s, graph->detectors, graph->edges);
     s.lengths.wrong -= j->lacks;
-    struct pavrenni_mark answer =
-        pavrenni_mark(GRAPH(graph), &j->shot, j->shot_len, j->width, list, length, row, j->row_len MARK_SLICES(LENT));
-    MARK_SLICES(GIVE_BACK)
+    struct pavrenni_mark answer = pavrenni_mark(
+        GRAPH(graph), &j->shot, j->shot_len, j->width, list, length, row, j->row_len, PAVRENNI_LEND_MARK(&s));
+    pavrenni_give_back_mark(&s);
     return answer;
 }
 
-static struct pavrenni_mark mark(const struct graph *graph, uint64_t shot, const uint32_t *list, size_t length, uint64_t *row)
+static struct pavrenni_mark mark(
+    const struct graph *graph, uint64_t shot, const uint32_t *list, size_t length, uint64_t *row)
 {
     const struct judged j = {.shot = shot, .shot_len = 1, .width = 2, .row_len = 1};
     return judge(graph, &j, list, length, row);
@@ -191,7 +152,7 @@ static struct pavrenni_mark mark(const struct graph *graph, uint64_t shot, const
 
 /* ---- tests */
 
-/* document 01's example: 0.25 flips detector 0 and observable 0, 0.25 flips detectors 0 and 1 */
+/* the example: 0.25 flips detector 0 and observable 0, 0.25 flips detectors 0 and 1 */
 static const struct model example = {
     .detectors = 2, .observables = 1, .mechanisms = 2, .entry_count = 4,
     .probability = {0.25, 0.25}, .detector_counts = {1, 2}, .observable_counts = {1, 0}, .entries = {0, 0, 0, 1}};
@@ -211,7 +172,8 @@ static bool is_zero(const void *at, size_t bytes)
 static bool no_model(const struct model *m)
 {
     return is_zero(m->probability, sizeof m->probability) && is_zero(m->detector_counts, sizeof m->detector_counts)
-        && is_zero(m->observable_counts, sizeof m->observable_counts) && is_zero(m->component_counts, sizeof m->component_counts)
+        && is_zero(m->observable_counts, sizeof m->observable_counts)
+        && is_zero(m->component_counts, sizeof m->component_counts)
         && is_zero(m->component_detectors, sizeof m->component_detectors)
         && is_zero(m->component_observables, sizeof m->component_observables) && is_zero(m->entries, sizeof m->entries);
 }
@@ -378,7 +340,8 @@ static void refusals(const struct graph *graph)
 }
 
 /* a boundary edge alone: shots that light detector 1 are Stuck there */
-static const struct graph end = {.detectors = 2, .observables = 1, .edges = 1, .edge_v = {PAVRENNI_BOUNDARY}, .edge_obs = {1}};
+static const struct graph end = {
+    .detectors = 2, .observables = 1, .edges = 1, .edge_v = {PAVRENNI_BOUNDARY}, .edge_obs = {1}};
 
 static void stuck(void)
 {
@@ -484,9 +447,43 @@ static void lengths(void)
     CHECK(is_zero(&over, sizeof over) && is_zero(&over_mark, sizeof over_mark));
 }
 
+#define IS_NAMED(code) CHECK(strcmp(pavrenni_code_name(code), #code) == 0)
+
+/* every code has a sentence and a name of its own, and so has a number that is none */
+static void codes(void)
+{
+    for (uint32_t code = 0; code <= 14; code++) {
+        CHECK(pavrenni_code_text(code)[0] != '\0' && pavrenni_code_name(code)[0] != '\0');
+        for (uint32_t other = 0; other < code; other++) {
+            CHECK(strcmp(pavrenni_code_text(code), pavrenni_code_text(other)) != 0);
+            CHECK(strcmp(pavrenni_code_name(code), pavrenni_code_name(other)) != 0);
+        }
+    }
+    CHECK(strcmp(pavrenni_code_text(0), "done") == 0);
+    CHECK(strcmp(pavrenni_code_text(11), "no set of edges explains it") == 0);
+    CHECK(strcmp(pavrenni_code_text(14), "a refusal that this header does not know") == 0);
+    CHECK(pavrenni_code_text(UINT32_MAX) == pavrenni_code_text(14));
+    CHECK(pavrenni_code_name(UINT32_MAX) == pavrenni_code_name(14));
+    IS_NAMED(PAVRENNI_DONE);
+    IS_NAMED(PAVRENNI_LIMIT);
+    IS_NAMED(PAVRENNI_SHORT);
+    IS_NAMED(PAVRENNI_FRAME);
+    IS_NAMED(PAVRENNI_PROBABILITY);
+    IS_NAMED(PAVRENNI_INDEX);
+    IS_NAMED(PAVRENNI_NO_COVER);
+    IS_NAMED(PAVRENNI_NOT_GRAPHLIKE);
+    IS_NAMED(PAVRENNI_LENGTH);
+    IS_NAMED(PAVRENNI_PADDING);
+    IS_NAMED(PAVRENNI_WIDTH);
+    IS_NAMED(PAVRENNI_STUCK);
+    IS_NAMED(PAVRENNI_SHAPE);
+    IS_NAMED(PAVRENNI_EDGE);
+}
+
 int main(void)
 {
     struct graph graph;
+    codes();
     models();
     graphs(&graph);
     shots(&graph);
@@ -494,6 +491,5 @@ int main(void)
     marks(&graph);
     rates(&graph);
     lengths();
-    printf("%s\n", failures == 0 ? "C: all as it must be" : "C: not as it must be");
-    return failures == 0 ? 0 : 1;
+    return verdict("C, every call");
 }
