@@ -5,9 +5,10 @@
 
 static size_t left, held;
 
+/* C allows a heap to answer a count of 0 with a null */
 static void *counted_calloc(size_t count, size_t size)
 {
-    if (left == 0) {
+    if (left == 0 || count == 0) {
         return NULL;
     }
     left--;
