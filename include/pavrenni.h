@@ -61,23 +61,24 @@ extern "C" {
 /* The second end of a boundary edge. */
 #define PAVRENNI_BOUNDARY UINT32_C(4294967295)
 
-/* Codes. "Zero" is of the tables that decomposition and compiling were to fill, whole; the other calls leave their rows
- * and lists untouched by 1, 2, 4, 5, 8, 9, 10 and 13. */
+/* Codes; pavrenni_code_text has a sentence on each. A refusal leaves the tables that decomposition and compiling were to
+ * fill all zero, and the rows and lists of the other calls untouched, but by 11 and 12 as they say. 3 is of frames
+ * alone: none of these calls has it. */
 enum pavrenni_code {
     PAVRENNI_DONE = 0,
-    PAVRENNI_LIMIT = 1,         /* a count over its limit, or the decomposed model finds no place; zero */
-    PAVRENNI_SHORT = 2,         /* a table, list, output or scratch slice too short; zero */
-    PAVRENNI_FRAME = 3,         /* frames alone: none of these calls */
-    PAVRENNI_PROBABILITY = 4,   /* a mechanism's probability, or the weight of an edge; zero */
-    PAVRENNI_INDEX = 5,         /* a mechanism's list, or an edge; zero */
-    PAVRENNI_NO_COVER = 6,      /* a mechanism has no cover; zero */
-    PAVRENNI_NOT_GRAPHLIKE = 7, /* a mechanism of over two detectors; zero */
-    PAVRENNI_LENGTH = 8,        /* the length of the row data */
-    PAVRENNI_PADDING = 9,       /* a bit past the width is set */
-    PAVRENNI_WIDTH = 10,        /* the width differs from D */
-    PAVRENNI_STUCK = 11,        /* no set of edges explains a shot */
-    PAVRENNI_SHAPE = 12,        /* the shape of the true observables; the rows are done */
-    PAVRENNI_EDGE = 13          /* an edge of a list is unknown or repeated */
+    PAVRENNI_LIMIT = 1,
+    PAVRENNI_SHORT = 2,
+    PAVRENNI_FRAME = 3,
+    PAVRENNI_PROBABILITY = 4,
+    PAVRENNI_INDEX = 5,
+    PAVRENNI_NO_COVER = 6,
+    PAVRENNI_NOT_GRAPHLIKE = 7,
+    PAVRENNI_LENGTH = 8,
+    PAVRENNI_PADDING = 9,
+    PAVRENNI_WIDTH = 10,
+    PAVRENNI_STUCK = 11,
+    PAVRENNI_SHAPE = 12,
+    PAVRENNI_EDGE = 13
 };
 
 /* What a code says, in a sentence: the words of the Rust client. */
