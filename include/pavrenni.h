@@ -61,8 +61,8 @@ extern "C" {
 /* The second end of a boundary edge. */
 #define PAVRENNI_BOUNDARY UINT32_C(4294967295)
 
-/* Codes; pavrenni_code_text has a sentence on each. A refusal leaves the tables that decomposition and compiling were to
- * fill all zero, and the rows and lists of the other calls untouched, but by 11 and 12 as they say. 3 is of frames
+/* Codes; pavrenni_code_text has a sentence on each. A refusal leaves the tables that decomposition and compiling were
+ * to fill all zero, and the rows and lists of the other calls untouched, but by 11 and 12 as they say. 3 is of frames
  * alone: none of these calls has it. */
 enum pavrenni_code {
     PAVRENNI_DONE = 0,
