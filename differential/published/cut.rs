@@ -11,7 +11,7 @@ pub const SOURCES: [(&str, &str); 4] = [
     ("src/error.rs", "5cba08367b3bb9dd068d1ac0156bb60b56671f288c0493d7e56ff5b099bdd7a9"),
 ];
 
-/// The one line that document 01 replaces: the library's logarithm by the stated one.
+/// The one line that the rules replace: the library's logarithm by the stated one.
 const LOGARITHM: &str = "((1.0 - p) / p).ln().max(0.0)";
 const STATED: &str = "crate::weight::stated((1.0 - p) / p)";
 

@@ -1,5 +1,5 @@
 //! A case run through the original and through the calls. Where the original has an answer the two must be equal to the bit; what it does not
-//! have (codes 1, 2, 5 and 13, the marker, lent memory) is held to document 01's words in `rules`.
+//! have (codes 1, 2, 5 and 13, the marker, lent memory) is held to the rules' words in `rules`.
 
 use crate::calls::{Calls, Mark, ShotAnswer};
 use crate::case::{Case, Input};
@@ -299,7 +299,7 @@ fn check_shot(
     Ok(Some(told))
 }
 
-/// The marker passes the decoder's list and writes the same row; other lists are held to document 01's words.
+/// The marker passes the decoder's list and writes the same row; other lists are held to the rules' words.
 fn check_marks(graph: &Graph, shot: &[u64], list: &[u32], told: &[u64], calls: &mut dyn Calls, seen: &mut Seen) -> Result<(), String> {
     let mut row = vec![WORD; graph.row_words() + 1];
     equal("mark of the decoder's list", Ok(Mark::Pass), calls.mark(graph, shot, graph.detectors, list, &mut row))?;

@@ -1,4 +1,4 @@
-//! Document 01's frames: written, and answered as program `bench` must answer them, with the original behind. The rules of lines, places and
+//! Frames (docs/RULES.md): written, and answered as program `bench` must answer them, with the original behind. The rules of lines, places and
 //! refusals are 01's; decomposition, graph, rows, lists and rate are the original's.
 
 use crate::model::{words, Mechanism, Model, ModelSize, Packed};

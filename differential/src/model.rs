@@ -1,4 +1,4 @@
-//! Models, graphs and packed shots as document 01 speaks of them, and the flat tables in which a model is lent.
+//! Models, graphs and packed shots as docs/RULES.md speaks of them, and the flat tables in which a model is lent.
 
 use std::fmt;
 

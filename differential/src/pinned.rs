@@ -1,4 +1,4 @@
-//! Small cases with a name: document 01's own, and one for each slip and each reading of it. docs/DECISIONS.md has the readings.
+//! Small cases with a name: the example's, and one for each slip and each reading of it. docs/DECISIONS.md has the readings.
 
 use crate::case::{Case, Input};
 use crate::model::{words, Graph, Mechanism, Model, Packed};
@@ -41,7 +41,7 @@ pub fn cases() -> Vec<(&'static str, Case)> {
     let pair = || vec![m(0.25, &[0, 1], &[])];
     let triple = |p: f64| m(p, &[0, 1, 2], &[]);
     vec![
-        ("document 01's model", model(2, 1, two(), &[0, 1, 2, 3])),
+        ("the example's model", model(2, 1, two(), &[0, 1, 2, 3])),
         ("the pair edge alone, both lit", model(2, 1, pair(), &[3])),
         ("the pair edge alone, one lit", model(2, 1, pair(), &[3, 2, 3])),
         ("equal probabilities keep the first observables", model(1, 2, vec![m(0.25, &[0], &[0]), m(0.25, &[0], &[1])], &[1])),

@@ -1,4 +1,4 @@
-//! Document 01's checks that the original does not have, written from its words: a model's lists and probabilities, a lent graph, the marker.
+//! The checks of docs/RULES.md that the original does not have, written from its words: a model's lists and probabilities, a lent graph, the marker.
 
 use crate::calls::Mark;
 use crate::model::{bit, words, Graph, Model, Packed, Refusal, Symptom, BOUNDARY};

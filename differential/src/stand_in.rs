@@ -16,7 +16,7 @@ pub struct StandIn {
 }
 
 impl StandIn {
-    /// A reading of document 01, telling no more than the C boundary does.
+    /// A reading of the rules, telling no more than the C boundary does.
     pub fn of(reading: Reading) -> StandIn {
         StandIn { reading, untold: true, ..StandIn::default() }
     }

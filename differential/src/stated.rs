@@ -1,4 +1,4 @@
-//! A second implementation, from document 01's words alone: labels and scans, no union-find, no stamps, no adjacency, no hash maps. `Reading`
+//! A second implementation, from the words of docs/RULES.md alone: labels and scans, no union-find, no stamps, no adjacency, no hash maps. `Reading`
 //! puts a slip or a misreading into it; `Reading::default()` agrees with the original.
 
 use crate::model::{bit, words, Graph, Mechanism, Model, Refusal, Symptom, BOUNDARY};

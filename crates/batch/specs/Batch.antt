@@ -1,4 +1,4 @@
--- The call that decodes a batch: document 01, "Packed shots and rows" and "Codes on the marking sheet".
+-- The call that decodes a batch: docs/RULES.md, "Shots and rows" and "Refusals".
 use Prim.Native.Nat.{ℕ, _*_}
 use mathlib.Core.Path.{_≡_}
 use mathlib.Core.List.{List}

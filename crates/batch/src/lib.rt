@@ -1,4 +1,4 @@
-// A batch decoded: document 01, "Packed shots and rows" and "Codes on the marking sheet". The call checks all that it is handed, puts its scratch to rest and decodes its shots.
+// A batch decoded: docs/RULES.md, "Shots and rows" and "Refusals". The call checks all that it is handed, puts its scratch to rest and decodes its shots.
 use codes::Checked;
 use scratch::Lengths;
 ghost use lib.ListN.{length};

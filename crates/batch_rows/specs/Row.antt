@@ -1,4 +1,4 @@
--- A shot of a batch, and its row: document 01, "Packed shots and rows".
+-- A shot of a batch, and its row: docs/RULES.md, "Shots and rows".
 use Prim.Native.Nat.{ℕ, _+_, _*_, _≤_}
 use mathlib.Core.Path.{_≡_}
 use mathlib.Core.List.{List, _++_}

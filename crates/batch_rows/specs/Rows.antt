@@ -1,4 +1,4 @@
--- The shots of a batch, in order, and the rows that they leave: document 01, "Packed shots and rows" and "Codes on the marking sheet".
+-- The shots of a batch, in order, and the rows that they leave: docs/RULES.md, "Shots and rows" and "Refusals".
 use Prim.Native.Nat.{ℕ, _*_, _<_, _≤_}
 use mathlib.Core.Path.{_≡_}
 use mathlib.Core.List.{List, [], _∷_}

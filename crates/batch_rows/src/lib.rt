@@ -1,4 +1,4 @@
-// The shots of a batch decoded one after another, each into its row of the output: document 01, "Packed shots and rows".
+// The shots of a batch decoded one after another, each into its row of the output: docs/RULES.md, "Shots and rows".
 use codes::Checked;
 use codes::Refusal;
 use shot::Shot;

@@ -1,4 +1,4 @@
--- Document 01's cases, proved: each contract is an equation, and both sides compute.
+-- The cases, proved: each contract is an equation, and both sides compute.
 use mathlib.Core.Path.{refl}
 use lib.Ieee as Ieee
 use Rattle.lists.specs.Lists.{below}

@@ -1,4 +1,4 @@
--- Document 01's proved cases, each about every function that keeps the contract of its call: what it answers and every word that it leaves.
+-- The proved cases, each about every function that keeps the contract of its call: what it answers and every word that it leaves.
 use Prim.Native.Nat.{ℕ}
 use mathlib.Core.Path.{_≡_}
 use mathlib.Core.List.{List, [], _∷_}
@@ -42,7 +42,7 @@ half = Ieee.ofBits binary64 0x3fe0000000000000
 
 -- ---- the graphs, as they are lent
 
--- document 01's model: edge 0 from D0 to the boundary flips L0, edge 1 joins D0 and D1
+-- the example's model (docs/RULES.md, "Frames"): edge 0 from D0 to the boundary flips L0, edge 1 joins D0 and D1
 unfoldable pub both-edges : Lent
 unfolding quarter-weight
 both-edges = lentOf 2 1 2 (0 ∷ 0 ∷ []) (boundary ∷ 1 ∷ []) (quarter-weight ∷ quarter-weight ∷ []) (1 ∷ 0 ∷ [])
@@ -89,7 +89,7 @@ pub record Decoder : Type 0 where
 abbrev pub MarkedOn : Lent → ℕ → List ℕ → Marking → List ℕ → Type 0
 MarkedOn l word list m row = (m′ : Marking) (row′ : List ℕ) → Marks l (word ∷ []) 2 list (5 ∷ 9 ∷ []) (3 ∷ []) (3 ∷ []) m′ row′ → (m′ ≡ m) × (row′ ≡ row)
 
--- the same on document 01's model and D1's shot
+-- the same on the example's model and D1's shot
 abbrev pub Marked : List ℕ → Marking → List ℕ → Type 0
 Marked list m row = MarkedOn both-edges 2 list m row
 
@@ -122,7 +122,7 @@ CompilesTo t n u v weight obs =
     → (r ≡ compiled.Edges n) × (exit .edge-u ≡ u) × (exit .edge-v ≡ v) × (exit .edge-weight ≡ weight) × (exit .edge-obs ≡ obs)
 
 pub record Compiling : Type 0 where
-  -- document 01's model
+  -- the example's model
   pub model : CompilesTo (two quarter quarter 1 2 1 0 (0 ∷ 0 ∷ 0 ∷ 1 ∷ [])) 2 (0 ∷ 0 ∷ []) (boundary ∷ 1 ∷ []) (quarter-weight ∷ quarter-weight ∷ []) (1 ∷ 0 ∷ [])
   -- "equal probabilities keep the first observables"
   pub equal : CompilesTo (two quarter quarter 2 2 0 1 (0 ∷ 1 ∷ 0 ∷ 1 ∷ 0 ∷ [])) 1 (0 ∷ 8 ∷ []) (1 ∷ 8 ∷ []) (quarter-weight ∷ one ∷ []) (0 ∷ 8 ∷ [])

@@ -1,1 +1,1 @@
-// Document 01's proved cases about the calls, in specs/, proved in proofs/. There is no code here.
+// The proved cases about the calls, in specs/, proved in proofs/. There is no code here.

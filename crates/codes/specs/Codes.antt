@@ -1,4 +1,4 @@
--- The number and the values that document 01's marking sheet has for each refusal.
+-- The number and the values that the marking sheet (docs/RULES.md, "Refusals") has for each refusal.
 use Prim.Native.Nat.{ℕ}
 use mathlib.Core.List.{List, [], _∷_}
 use lib.ListN.{getD}

@@ -1,4 +1,4 @@
--- Document 01's limits, and code 1.
+-- The limits of docs/RULES.md, "Limits", and code 1.
 use Prim.Native.Nat.{ℕ}
 use lib.Dec.{ltb}
 use Rattle.codes.specs.declared.Refusal.the-variants.{Limit}

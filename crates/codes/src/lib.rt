@@ -1,4 +1,4 @@
-// Document 01, "Codes on the marking sheet": what a call refuses with, and the limits.
+// docs/RULES.md, "Refusals": what a call refuses with, and the limits.
 // The Rust has one error for all of these, `PrismError::InvalidParameter`, with a text; here the case is the message.
 ghost use mathlib.Core.Path.{_≡_};
 ghost use Rattle.codes.specs.Codes.{codeOf, firstOf, secondOf};

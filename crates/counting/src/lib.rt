@@ -1,4 +1,4 @@
-// Document 01, "Growth and clusters", step 1: the live detectors listed, their open edges counted, the first stuck cluster.
+// docs/RULES.md, "Growth", step 1: the live detectors listed, their open edges counted, the first stuck cluster.
 use adjacency::EDGE;
 use adjacency::OTHER;
 use cells::CNT;

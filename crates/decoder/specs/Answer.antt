@@ -1,4 +1,4 @@
--- What the call answers and leaves: document 01, "Growth and clusters", "Correction list and marker" and "Codes on the marking sheet".
+-- What the call answers and leaves: docs/RULES.md, "Growth", "Peeling" and "Refusals".
 use Prim.Native.Nat.{ℕ}
 use mathlib.Core.Path.{_≡_}
 use mathlib.Core.List.{List, [], _∷_}

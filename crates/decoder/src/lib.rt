@@ -1,4 +1,4 @@
-// A shot decoded: document 01, "Growth and clusters" and "Correction list and marker". The call checks all that it is handed, puts its scratch to rest and decodes.
+// A shot decoded: docs/RULES.md, "Growth" and "Peeling". The call checks all that it is handed, puts its scratch to rest and decodes.
 use codes::Checked;
 use codes::Refusal;
 use scratch::Lengths;

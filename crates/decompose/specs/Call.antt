@@ -1,4 +1,4 @@
--- What the call answers and leaves: document 01, "Decomposed model" and "Codes on the marking sheet".
+-- What the call answers and leaves: docs/RULES.md, "Decomposition" and "Refusals".
 use Prim.Native.Nat.{ℕ, _*_, min}
 use mathlib.Core.Path.{_≡_}
 use mathlib.Core.List.{List, [], _∷_}

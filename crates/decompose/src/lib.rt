@@ -1,4 +1,4 @@
-// Document 01, "Decomposed model": a model in its tables is checked, decomposed into output tables, or refused.
+// docs/RULES.md, "Decomposition": a model in its tables is checked, decomposed into output tables, or refused.
 use codes::Refusal;
 use split_model::Counts;
 use splits::Step;

@@ -40,7 +40,7 @@ abbrev pub w0 : Float
 w0 = fin false 0 (pos 0)
 
 pub record Cases : Type 0 where
-  -- document 01: "0.25 added to 0.25 is 0.375"
+  -- 0.25 added to 0.25 is 0.375
   pub added : plus quarter quarter ≡ three-eighths
   -- a kept minus zero with zero added becomes plus zero
   pub minus-zero : plus (fin true 0 (pos 0)) w0 ≡ w0

@@ -1,4 +1,4 @@
--- The first cover: document 01, "Decomposed model".
+-- The first cover: docs/RULES.md, "Decomposition".
 use Prim.Native.Nat.{ℕ, suc, _<_, _≤_}
 use mathlib.Core.Path.{_≡_}
 use mathlib.Core.List.{List, [], _∷_, _++_}

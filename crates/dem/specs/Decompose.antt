@@ -1,4 +1,4 @@
--- The decomposed model: document 01, "Decomposed model".
+-- The decomposed model: docs/RULES.md, "Decomposition".
 use Prim.Native.Nat.{ℕ, zero, suc, _+_}
 use mathlib.Core.List.{List, [], _∷_, _++_, map}
 use mathlib.Core.Bool.{Bool, true, false, cond, not, _&&_, _||_}

@@ -1,4 +1,4 @@
--- A detector error model: document 01, "Mechanism".
+-- A detector error model: docs/RULES.md, "Models".
 use Prim.Native.Nat.{ℕ, suc, _+_}
 use mathlib.Core.List.{List, [], _∷_}
 use mathlib.Core.Bool.{Bool, true, false, not, _&&_}

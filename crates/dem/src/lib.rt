@@ -1,4 +1,4 @@
-// Document 01, "Mechanism": a detector error model in flat tables, read and checked.
+// docs/RULES.md, "Models": a detector error model in flat tables, read and checked.
 ghost use mathlib.Core.Path.{_≡_};
 ghost use mathlib.Core.List.{[]};
 ghost use mathlib.Core.Bool.{true, not};

@@ -28,7 +28,7 @@ abbrev pub edge : ℕ → ℕ → Float → List ℕ → Edge
 edge a b p obs = record { u = a; v = b; probability = p; observables = obs }
 
 pub record Cases : Type 0 where
-  -- document 01's model compiles to its two edges
+  -- the example's model compiles to its two edges
   pub model : graphs 2 1 (compile 2 1 (plain quarter (0 ∷ []) (0 ∷ []) ∷ plain quarter (0 ∷ 1 ∷ []) [] ∷ [])) ≡ both-edges ∷ []
   -- equal probabilities keep the first observables
   pub equal : compile 2 1 (plain quarter (0 ∷ 1 ∷ []) [] ∷ plain quarter (0 ∷ 1 ∷ []) (0 ∷ []) ∷ []) ≡ into (edge 0 1 quarter [] ∷ [])

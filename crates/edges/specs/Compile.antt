@@ -1,4 +1,4 @@
--- Compiling a model to its edge graph: document 01, "Edge graph".
+-- Compiling a model to its edge graph: docs/RULES.md, "Graphs".
 use Prim.Native.Nat.{ℕ, suc}
 use mathlib.Core.List.{List, [], _∷_, map}
 use mathlib.Core.Bool.{Bool, false, cond, _&&_}

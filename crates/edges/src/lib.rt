@@ -1,4 +1,4 @@
-// Document 01, "Edge graph": mechanisms with the same detectors share one edge, found by a chain and written into the tables.
+// docs/RULES.md, "Graphs": mechanisms with the same detectors share one edge, found by a chain and written into the tables.
 ghost use mathlib.Core.Path.{_≡_};
 ghost use mathlib.Core.Bool.{true, false, _&&_};
 ghost use Prim.Native.Nat.{_+_, _*_, _<_, _≤_};

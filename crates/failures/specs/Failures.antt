@@ -1,4 +1,4 @@
--- Failures and their rate: document 01, "Rate" and "Codes on the marking sheet".
+-- Failures and their rate: docs/RULES.md, "The rate" and "Refusals".
 use Prim.Native.Nat.{ℕ, _+_, _*_, _≤_, _<_}
 use mathlib.Core.Path.{_≡_}
 use mathlib.Core.List.{List, [], _∷_}

@@ -1,4 +1,4 @@
-// Shots that fail, and their rate: document 01, "Rate".
+// Shots that fail, and their rate: docs/RULES.md, "The rate".
 use codes::Checked;
 use codes::Refusal;
 ghost use mathlib.Core.Path.{_≡_};

@@ -1,4 +1,4 @@
-// Document 01, "Growth and clusters", step 1: the first active cluster with no edge to grow.
+// docs/RULES.md, "Growth", step 1: the first active cluster with no edge to grow.
 use cells::ACTIVE;
 use cells::FREE;
 ghost use Prim.Native.Nat.{_+_, _<_};

@@ -1,4 +1,4 @@
--- Document 01's example, and cases at the edges, by computation.
+-- The example of docs/RULES.md, "Frames", and cases at the edges, by computation.
 use Prim.Native.Nat.{ℕ}
 use mathlib.Core.Path.{_≡_, refl}
 use mathlib.Core.List.{List, [], _∷_, _++_}
@@ -8,7 +8,7 @@ use Rattle.hex.specs.Hex.{textOf}
 use Rattle.frames.specs.declared.Stage.the-variants.{InModel, BetweenShots}
 use Rattle.frames.specs.Input.{Given, Input, next, refused, start, readLine, meaningOf}
 
--- document 01's example: six lines, the last one without its line feed
+-- the example: six lines, the last one without its line feed
 abbrev pub exampleText : List ℕ
 exampleText =
     48 ∷ 49 ∷ 48 ∷ 48 ∷ 48 ∷ 50 ∷ 48 ∷ 48 ∷ 48 ∷ 49 ∷ 10 ∷

@@ -1,4 +1,4 @@
--- The frames of an input: document 01, "Frames".
+-- The frames of an input: docs/RULES.md, "Frames".
 use Prim.Native.Nat.{ℕ, _+_, _*_}
 use mathlib.Core.List.{List}
 use mathlib.Core.Bool.{Bool, cond}

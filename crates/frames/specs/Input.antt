@@ -1,4 +1,4 @@
--- What an input says, line by line: document 01, "Frames".
+-- What an input says, line by line: docs/RULES.md, "Frames".
 use Prim.Native.Nat.{ℕ, _+_}
 use mathlib.Core.List.{List, [], _∷_, _++_, map}
 use mathlib.Core.Bool.{Bool, cond, _&&_, _||_}

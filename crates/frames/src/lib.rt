@@ -1,4 +1,4 @@
-// Document 01, "Frames": what a line says, and the answer to it by the numbers of what was read.
+// docs/RULES.md, "Frames": what a line says, and the answer to it by the numbers of what was read.
 use codes::Checked;
 use codes::Refusal;
 ghost use mathlib.Core.Path.{_≡_};

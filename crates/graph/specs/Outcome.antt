@@ -1,4 +1,4 @@
--- What a call of `from_model` comes to: document 01, "Codes on the marking sheet".
+-- What a call of `from_model` comes to: docs/RULES.md, "Refusals".
 use Prim.Native.Nat.{ℕ}
 use mathlib.Core.Path.{_≡_}
 use mathlib.Core.List.{List, [], _∷_}

@@ -1,4 +1,4 @@
-// Document 01, "Edge graph": compiling a model to its edges.
+// docs/RULES.md, "Graphs": compiling a model to its edges.
 ghost use mathlib.Core.Path.{_≡_};
 ghost use mathlib.Core.Bool.{false, _&&_};
 ghost use Prim.Native.Nat.{_+_, _<_, _≤_};

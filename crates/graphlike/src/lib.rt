@@ -1,4 +1,4 @@
-// Document 01, "Decomposed model" and "Codes on the marking sheet": the call, with its refusals in their order.
+// docs/RULES.md, "Decomposition" and "Refusals": the call, with its refusals in their order.
 ghost use mathlib.Core.Path.{_≡_};
 ghost use Rattle.dem.specs.Tables.{modelOf, tablesZero};
 ghost use Rattle.dem.specs.Positions.{tables};

@@ -1,4 +1,4 @@
-// Document 01, "Growth and clusters", step 2: the least step, and the counted edges grown by it.
+// docs/RULES.md, "Growth", step 2: the least step, and the counted edges grown by it.
 use cells::CNT;
 use cells::FRESH;
 use cells::TOUCHED;

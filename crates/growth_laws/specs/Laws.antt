@@ -1,4 +1,4 @@
--- The laws of growth on accepted weights, in words of sets: document 01, "Growth and clusters". Statements only: proofs/Proved.antt proves them.
+-- The laws of growth on accepted weights, in words of sets: docs/RULES.md, "Growth". Statements only: proofs/Proved.antt proves them.
 use Prim.Native.Nat.{ℕ, suc, _<_}
 use mathlib.Core.Path.{_≡_}
 use mathlib.Core.List.{List, [], _∷_}

@@ -1,4 +1,4 @@
--- "lower-case hexadecimal, big-endian": document 01, "Frames".
+-- Lower-case hexadecimal, big-endian: docs/RULES.md, "Frames".
 use Prim.Native.Nat.{ℕ, zero, suc, _+_, _-_, _*_, _/_, _%_, _^_}
 use mathlib.Core.List.{List, [], _∷_, _++_}
 use mathlib.Core.Bool.{Bool, true, cond, _&&_, _||_}

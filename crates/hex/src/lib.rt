@@ -1,4 +1,4 @@
-// Document 01, "Frames": lower-case hexadecimal, big-endian. A line is read where it stands, digit by digit, so nothing bounds its length.
+// docs/RULES.md, "Frames": lower-case hexadecimal, big-endian. A line is read where it stands, digit by digit, so nothing bounds its length.
 ghost use mathlib.Core.Path.{_≡_};
 ghost use Prim.Native.Nat.{_+_, _*_, _/_, _<_, _≤_};
 ghost use mathlib.Core.List.{[], _∷_};

@@ -1,4 +1,4 @@
-// Document 01, "Frames": the last line of an input, and the line after it.
+// docs/RULES.md, "Frames": the last line of an input, and the line after it.
 use session::Numbers;
 use session::Told;
 ghost use mathlib.Core.Path.{_≡_};

@@ -1,4 +1,4 @@
--- What is copied of the columns: document 01, "Those with 0 to 2 detectors are kept in order, with their components".
+-- What is copied of the columns: docs/RULES.md, "Decomposition": mechanisms of 0, 1 or 2 detectors are kept, in order, with their components.
 use Prim.Native.Nat.{ℕ, zero, suc, _-_, _<_, _≤_}
 use mathlib.Core.Path.{_≡_}
 use mathlib.Core.List.{List, [], _∷_, _++_}

@@ -1,4 +1,4 @@
-// Document 01, "Decomposed model": the kept mechanisms are copied, column by column.
+// docs/RULES.md, "Decomposition": the kept mechanisms are copied, column by column.
 use dem::Place;
 ghost use Prim.Native.Nat.{_+_, _<_, _≤_};
 ghost use lib.ListN.{length, take};

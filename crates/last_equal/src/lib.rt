@@ -1,4 +1,4 @@
-// Document 01, "Decomposed model": the last mechanism with equal lists, by chains of the mechanisms with the same first detector.
+// docs/RULES.md, "Decomposition": the last mechanism with equal lists, by chains of the mechanisms with the same first detector.
 ghost use mathlib.Core.Path.{_≡_};
 ghost use mathlib.Core.Bool.{true, false};
 ghost use Prim.Native.Nat.{_+_, _<_, _≤_};

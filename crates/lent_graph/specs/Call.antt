@@ -1,4 +1,4 @@
--- What every call on a lent graph checks: document 01, "Edge graph" and "Codes on the marking sheet".
+-- What every call on a lent graph checks: docs/RULES.md, "Graphs" and "Refusals".
 use Prim.Native.Nat.{ℕ}
 use mathlib.Core.List.{List}
 use mathlib.Core.Bool.{Bool, not, _&&_}

@@ -1,4 +1,4 @@
--- The check of a lent graph: document 01, "Edge graph" and "Codes on the marking sheet".
+-- The check of a lent graph: docs/RULES.md, "Graphs" and "Refusals".
 use Prim.Native.Nat.{ℕ, _*_}
 use mathlib.Core.List.{List}
 use mathlib.Core.Bool.{Bool, not, _&&_, _||_}

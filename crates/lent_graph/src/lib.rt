@@ -1,4 +1,4 @@
-// Document 01, "Edge graph" and "Codes on the marking sheet": the check of a lent graph, and what every call on one checks first.
+// docs/RULES.md, "Graphs" and "Refusals": the check of a lent graph, and what every call on one checks first.
 use codes::Checked;
 use codes::Refusal;
 use packed::Packed;

@@ -1,4 +1,4 @@
--- The marker's answer and the row that it leaves: document 01, "Correction list and marker" and "Codes on the marking sheet".
+-- The marker's answer and the row that it leaves: docs/RULES.md, "Marking" and "Refusals".
 use Prim.Native.Nat.{ℕ}
 use mathlib.Core.Path.{_≡_}
 use mathlib.Core.List.{List}

@@ -1,4 +1,4 @@
-// The marker: document 01, "Correction list and marker". A lent graph, a shot and any list of edge numbers.
+// The marker: docs/RULES.md, "Marking". A lent graph, a shot and any list of edge numbers.
 use codes::Checked;
 use marking::Marking;
 ghost use mathlib.Core.Path.{_≡_};

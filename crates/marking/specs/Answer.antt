@@ -1,4 +1,4 @@
--- The marker's answer: document 01, "Correction list and marker".
+-- The marker's answer: docs/RULES.md, "Marking".
 use mathlib.Core.List.{[], _∷_}
 use Rattle.codes.specs.Codes.{Sheet, refusalRow, successRow}
 use Rattle.codes.specs.declared.Refusal.the-variants as refusal

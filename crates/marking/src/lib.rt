@@ -1,4 +1,4 @@
-// The passes of marking: document 01, "Correction list and marker". A list is judged against a shot, and the row of its observables is written.
+// The passes of marking: docs/RULES.md, "Marking". A list is judged against a shot, and the row of its observables is written.
 use codes::Refusal;
 ghost use mathlib.Core.Path.{_≡_};
 ghost use mathlib.Core.Bool.{true};

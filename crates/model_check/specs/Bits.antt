@@ -1,4 +1,4 @@
--- Probabilities that come as bits: document 01, "Frames", and "outside [0,1) or NaN".
+-- Probabilities that come as bits: docs/RULES.md, "Frames" and "Models".
 use Prim.Native.Nat.{ℕ, min, _<_}
 use mathlib.Core.Path.{_≡_}
 use mathlib.Core.Bool.{cond, true}

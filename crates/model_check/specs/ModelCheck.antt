@@ -1,4 +1,4 @@
--- "the model is checked at 04": document 01, "Frames".
+-- The model is checked at 04: docs/RULES.md, "Frames".
 use Prim.Native.Nat.{ℕ, _≤_}
 use mathlib.Core.Path.{_≡_}
 use mathlib.Core.Bool.{false, _||_}

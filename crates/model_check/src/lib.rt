@@ -1,4 +1,4 @@
-// Document 01, "Frames": the model that was read, its probabilities from their bits, and its check at 04.
+// docs/RULES.md, "Frames": the model that was read, its probabilities from their bits, and its check at 04.
 use codes::Checked;
 use codes::Refusal;
 use frames::State;

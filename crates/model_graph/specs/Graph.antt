@@ -1,4 +1,4 @@
--- What the model that was read comes to at 04: document 01, "Frames".
+-- What the model that was read comes to at 04: docs/RULES.md, "Frames".
 use Prim.Native.Nat.{ℕ}
 use mathlib.Core.Bool.{false}
 use mathlib.Core.List.{List}

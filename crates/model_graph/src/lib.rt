@@ -1,4 +1,4 @@
-// Document 01, "Frames": at 04 the model that was read is checked, decomposed and compiled.
+// docs/RULES.md, "Frames": at 04 the model that was read is checked, decomposed and compiled.
 use codes::Checked;
 use decompose::Decomposed;
 use frames::State;

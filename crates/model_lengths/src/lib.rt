@@ -1,4 +1,4 @@
-// Document 01, "Codes on the marking sheet", 2: the lengths that decomposition asks of its output tables and its scratch.
+// docs/RULES.md, "Refusals", 2: the lengths that decomposition asks of its output tables and its scratch.
 ghost use mathlib.Core.Path.{_≡_};
 ghost use mathlib.Core.Bool.{_&&_};
 ghost use Prim.Native.Nat.{min, _≤_};

@@ -60,6 +60,6 @@ LengthWrong = (rows : List ℕ) (shots width : ℕ) → checkPacked rows shots w
 abbrev pub LimitPassed : Type 0
 LimitPassed = (rows : List ℕ) (shots width : ℕ) → checkPacked rows shots width ≡ Refused Limit → maxShots < shots
 
--- document 01's case: D = 2 with word 4 gives 9
+-- D = 2 with word 4 gives 9
 abbrev pub WordFour : Type 0
 WordFour = checkPacked (4 ∷ []) 1 2 ≡ Refused (Padding 0)

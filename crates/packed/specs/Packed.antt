@@ -1,4 +1,4 @@
--- Packed shots: document 01, "Packed shots and rows", and the comment of `PackedShots` in the Rust.
+-- Packed shots: docs/RULES.md, "Shots and rows", and the comment of `PackedShots` in the Rust.
 use Prim.Native.Nat.{ℕ, _*_}
 use mathlib.Core.Bool.{cond, not}
 use mathlib.Core.List.{List, [], _∷_}

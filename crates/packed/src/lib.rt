@@ -1,4 +1,4 @@
-// Packed shots: document 01, "Packed shots and rows". Shots one after another, a row of words each.
+// Packed shots: docs/RULES.md, "Shots and rows". Shots one after another, a row of words each.
 use codes::Checked;
 use codes::Refusal;
 ghost use mathlib.Core.Path.{_≡_};

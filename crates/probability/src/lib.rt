@@ -1,4 +1,4 @@
-// Document 01, "Decomposed model": adding p to q is q·(1-p) + p·(1-q), each operation rounded once.
+// docs/RULES.md, "Decomposition": adding p to q is q·(1-p) + p·(1-q), each operation rounded once.
 ghost use mathlib.Core.Path.{_≡_};
 ghost use Prim.Native.Nat.{ℕ, _+_, _<_};
 ghost use lib.ListN.{length, getD};

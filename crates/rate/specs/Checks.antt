@@ -1,4 +1,4 @@
--- What the rate checks before it decodes: document 01, "Rate".
+-- What the rate checks before it decodes: docs/RULES.md, "The rate".
 use Prim.Native.Nat.{ℕ}
 use mathlib.Core.List.{List}
 use mathlib.Core.Bool.{Bool, not, _&&_}

@@ -1,4 +1,4 @@
-// Document 01, "Frames": a line read into tables. It is checked whole before anything is written.
+// docs/RULES.md, "Frames": a line read into tables. It is checked whole before anything is written.
 use codes::Refusal;
 use frames::Line;
 use frames::State;

@@ -1,4 +1,4 @@
--- The same of the call, on document 01's shot of D1 and on every call.
+-- The same of the call, on the example's shot of D1 and on every call.
 use Prim.Native.Nat.{ℕ, zero, suc}
 use native.Mathlib.Omega.{arith}
 use mathlib.Core.Path.{_≡_, refl, sym}

@@ -1,4 +1,4 @@
--- Each wrong program is shown wrong on one shot of document 01's model, by one field of the statement.
+-- Each wrong program is shown wrong on one shot of the example's model, by one field of the statement.
 use Prim.Native.Nat.{ℕ, zero, suc}
 use native.Mathlib.Omega.{arith}
 use mathlib.Core.Path.{_≡_, refl, sym}
@@ -17,7 +17,7 @@ use Rattle.steps.specs.Found.{Programs, Explains, Found, Demand3}
 use Rattle.refuted.specs.Wrong as Wrong
 use Rattle.refuted.specs.Refuted.{Refuted, Breaks}
 
--- ---- document 01's model
+-- ---- the example's model
 
 accepted : AcceptedGraph both-edges
 unfolding both-edges checkCounts checkEdges below Ieee.le

@@ -1,4 +1,4 @@
--- Wrong programs that document 01 names, and others: each breaks the statement of demand 3.
+-- Wrong programs, those that the scope names and others: each breaks the statement of demand 3.
 use Prim.Native.Nat.{ℕ}
 use mathlib.Core.Path.{_≡_}
 use mathlib.Core.List.{List, [], _∷_}
@@ -47,7 +47,7 @@ pub record Refuted : Type 0 where
 
 -- ---- the same of the call, whatever list and row are handed back
 
--- document 01's model and the shot of D1, which takes two rounds
+-- the example's model and the shot of D1, which takes two rounds
 unfoldable pub d1 : Handed
 unfolding quarter-weight lengthsFor
 d1 = handed (lentOf 2 1 2 (0 ∷ 0 ∷ []) (boundary ∷ 1 ∷ []) (quarter-weight ∷ quarter-weight ∷ []) (1 ∷ 0 ∷ [])) (2 ∷ []) 2 (0 ∷ []) (0 ∷ 0 ∷ []) (lengthsFor 2 2)

@@ -1,4 +1,4 @@
--- Wrong programs: each is made from those that follow document 01's steps, with one thing changed.
+-- Wrong programs: each is made from those that follow the steps, with one thing changed.
 use Prim.Native.Nat.{ℕ, suc, _-_}
 use mathlib.Core.List.{List, [], _∷_, _++_, map}
 use mathlib.Core.Bool.{Bool, true, false, cond}

@@ -1,4 +1,4 @@
--- The line at the end of an input: document 01, "Frames" and "Rate".
+-- The line at the end of an input: docs/RULES.md, "Frames" and "The rate".
 use Prim.Native.Nat.{ℕ}
 use mathlib.Core.List.{List}
 use lib.Ieee.{binary64, toBits}

@@ -1,4 +1,4 @@
--- What is written: document 01, "Frames".
+-- What is written: docs/RULES.md, "Frames".
 use Prim.Native.Nat.{ℕ}
 use mathlib.Core.Path.{_≡_, refl}
 use mathlib.Core.List.{List, [], _∷_, _++_}
@@ -26,7 +26,7 @@ rateReply shots failures rate = 0x8f ∷ (bytesIn 4 shots ++ (bytesIn 4 failures
 abbrev pub refusalReply : ℕ → List ℕ
 refusalReply code = 0xff ∷ code ∷ []
 
--- ---- document 01's example, and wrong writers that it rules out: a count of edges in one byte or off by one, a row with its least byte first
+-- ---- the example of the rules, and wrong writers that it rules out: a count of edges in one byte or off by one, a row with its least byte first
 
 pub example : (lineOf (rowReply (1 ∷ [])) ≡ 56 ∷ 53 ∷ 48 ∷ 48 ∷ 48 ∷ 48 ∷ 48 ∷ 48 ∷ 48 ∷ 48 ∷ 48 ∷ 48 ∷ 48 ∷ 48 ∷ 48 ∷ 48 ∷ 48 ∷ 49 ∷ 10 ∷ [])
     × (lineOf (listReply (1 ∷ 0 ∷ [])) ≡ 56 ∷ 54 ∷ 48 ∷ 48 ∷ 48 ∷ 50 ∷ 48 ∷ 48 ∷ 48 ∷ 49 ∷ 48 ∷ 48 ∷ 48 ∷ 48 ∷ 10 ∷ [])

@@ -1,4 +1,4 @@
-// Document 01, "Frames" and "Rate": the lines that are written. Each goes to the front of a slice that is long enough, and the answer is its length.
+// docs/RULES.md, "Frames" and "The rate": the lines that are written. Each goes to the front of a slice that is long enough, and the answer is its length.
 use codes::Checked;
 use codes::Refusal;
 ghost use mathlib.Core.Path.{_≡_};

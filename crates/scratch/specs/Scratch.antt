@@ -1,4 +1,4 @@
--- The least lengths of the decoder's scratch slices, and whether slices are that long: document 01, "scratch a formula in D and edges".
+-- The least lengths of the decoder's scratch slices, and whether slices are that long: docs/SCRATCH.md.
 use Prim.Native.Nat.{ℕ, _+_, _*_}
 use mathlib.Core.Bool.{Bool, _&&_}
 use lib.Dec.{leb}

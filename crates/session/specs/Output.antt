@@ -1,4 +1,4 @@
--- What an input is answered with: document 01, "Frames".
+-- What an input is answered with: docs/RULES.md, "Frames".
 use Prim.Native.Nat.{ℕ, _+_}
 use mathlib.Core.List.{List, [], _∷_, _++_}
 use mathlib.Core.Bool.{Bool, true, false}

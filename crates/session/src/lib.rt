@@ -1,4 +1,4 @@
-// Document 01, "Frames": a line of an input answered, and the end of the input. The text goes to the front of a slice, and the answer tells its length.
+// docs/RULES.md, "Frames": a line of an input answered, and the end of the input. The text goes to the front of a slice, and the answer tells its length.
 use codes::Refusal;
 use frames::Line;
 use frames::State;

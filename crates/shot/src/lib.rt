@@ -1,4 +1,4 @@
-// One shot decoded over tables at rest: document 01, "Growth and clusters" and "Correction list and marker".
+// One shot decoded over tables at rest: docs/RULES.md, "Growth" and "Peeling".
 use cells::ACTIVE;
 use cells::DEFECTS;
 use cells::HOT;

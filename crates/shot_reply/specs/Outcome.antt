@@ -1,4 +1,4 @@
--- What a shot comes to at its 06: document 01, "Frames" and "Rate".
+-- What a shot comes to at its 06: docs/RULES.md, "Frames" and "The rate".
 use Prim.Native.Nat.{ℕ}
 use mathlib.Core.Bool.{Bool, true, false, not, _||_}
 use mathlib.Core.List.{List, [], _∷_, _++_}

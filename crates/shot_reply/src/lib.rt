@@ -1,4 +1,4 @@
-// Document 01, "Frames": a shot is checked at its 06 and decoded, and its 85 and 86 are written.
+// docs/RULES.md, "Frames": a shot is checked at its 06 and decoded, and its 85 and 86 are written.
 use codes::Refusal;
 use decoder::Answer;
 use packed::Packed;

@@ -1,4 +1,4 @@
-// Document 01, "Decomposed model": the model in its tables, decomposed into output tables.
+// docs/RULES.md, "Decomposition": the model in its tables, decomposed into output tables.
 use dem::Place;
 use splits::Step;
 use suggested::Size;

@@ -1,4 +1,4 @@
-// Document 01, "Decomposed model": each larger mechanism, in order, goes one of two ways.
+// docs/RULES.md, "Decomposition": each larger mechanism, in order, goes one of two ways.
 ghost use mathlib.Core.Path.{_≡_};
 ghost use mathlib.Core.List.{List};
 ghost use Prim.Native.Nat.{_+_, _<_};

@@ -1,4 +1,4 @@
-// Document 01, program `bench`: standard input in blocks, answered as `stream` and `input_end` say; what a block is answered with is written at once. The loop is all that is here,
+// docs/RULES.md, "Frames", program `bench`: standard input in blocks, answered as `stream` and `input_end` say; what a block is answered with is written at once. The loop is all that is here,
 // and it is called with nothing lent, so that a program asks nothing of it.
 use libc::STDIN_FILENO;
 use libc::STDOUT_FILENO;

@@ -1,4 +1,4 @@
--- Document 01's proved cases of the decoder and the marker, and further ones, in one table that closes by computation.
+-- The proved cases of the decoder and the marker, and further ones, in one table that closes by computation.
 use Prim.Native.Nat.{ℕ}
 use mathlib.Core.Path.{_≡_, refl}
 use mathlib.Core.List.{List, [], _∷_}
@@ -23,7 +23,7 @@ unfoldable pub quarter-weight : Float
 unfolding Ieee.ofBits
 quarter-weight = Ieee.ofBits binary64 0x3ff193ea7aad030a
 
--- document 01's model: mechanism 0 flips D0 and L0, mechanism 1 flips D0 and D1
+-- the example's model (docs/RULES.md, "Frames"): mechanism 0 flips D0 and L0, mechanism 1 flips D0 and D1
 unfoldable pub both-edges : Graph
 unfolding quarter-weight
 both-edges = record { detectors = 2; observables = 1; edge-u = 0 ∷ 0 ∷ []; edge-v = boundary ∷ 1 ∷ []; edge-weight = quarter-weight ∷ quarter-weight ∷ []; edge-obs = (1 ∷ []) ∷ (0 ∷ []) ∷ [] }
@@ -47,7 +47,7 @@ w1 = fin false 1 (pos 0)
 abbrev pub triangle : Graph
 triangle = pairs 3 (0 ∷ 1 ∷ 0 ∷ []) (1 ∷ 2 ∷ 2 ∷ []) (w0 ∷ w0 ∷ w1 ∷ [])
 
--- ---- document 01: "Proved cases on this model"
+-- ---- the cases on this model
 
 -- the row that the shot leaves where zeros were
 abbrev pub row : Graph → List Bool → List ℕ
@@ -82,7 +82,7 @@ pub record Marker : Type 0 where
   pub unknown : mark both-edges (false ∷ true ∷ []) (1 ∷ 0 ∷ 2 ∷ []) ≡ unfit
   pub repeated : mark both-edges (false ∷ true ∷ []) (1 ∷ 0 ∷ 0 ∷ 0 ∷ []) ≡ unfit
 
--- ---- readings of document 01 that the Rust decides
+-- ---- readings of the rules that the Rust decides (docs/DECISIONS.md)
 
 pub record Readings : Type 0 where
   -- a merged cluster's place is the earliest that its parts had as the round began: merging places edge by edge would name 1
@@ -123,7 +123,7 @@ abbrev pub lent : List ℕ → List ℕ → List Float → List (List ℕ) → G
 lent u v w obs = record { detectors = 2; observables = 1; edge-u = u; edge-v = v; edge-weight = w; edge-obs = obs }
 
 pub record Slices : Type 0 where
-  -- the tables that give document 01's graph; what lies past the edges is not read
+  -- the tables that give the example's graph; what lies past the edges is not read
   pub read : graphOf 2 1 2 (0 ∷ 0 ∷ 7 ∷ []) (boundary ∷ 1 ∷ 7 ∷ []) (quarter-weight ∷ quarter-weight ∷ []) (1 ∷ 0 ∷ 7 ∷ []) ≡ both-edges
   pub lit-d1 : litOf 2 (2 ∷ []) ≡ false ∷ true ∷ []
   pub passes : checkEdges both-edges (edges both-edges) ≡ Accepted

@@ -25,7 +25,7 @@ pub record Programs : Type 0 where
   -- the marker's answer to a list of edges
   pub marks : Graph → List Bool → List ℕ → Marked
 
--- those that follow document 01's steps
+-- those that follow the steps of docs/RULES.md
 abbrev pub bySteps : Programs
 bySteps = record { decodes = decode; leaves = λ g lit was. rowLeft g was (decode g lit); marks = mark }
 

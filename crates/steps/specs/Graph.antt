@@ -1,4 +1,4 @@
--- The edge graph: document 01, "Edge graph".
+-- The edge graph: docs/RULES.md, "Graphs".
 use Prim.Native.Nat.{ℕ, _<_}
 use mathlib.Core.Path.{_≡_}
 use mathlib.Core.List.{List}

@@ -1,4 +1,4 @@
--- Growth by rounds: document 01, "Growth and clusters". A cluster is named by its lowest detector.
+-- Growth by rounds: docs/RULES.md, "Growth". A cluster is named by its lowest detector.
 use Prim.Native.Nat.{ℕ, zero, suc, _+_, min, max}
 use mathlib.Core.List.{List, [], _∷_, map}
 use mathlib.Core.Bool.{Bool, false, cond, not, _&&_, _||_}

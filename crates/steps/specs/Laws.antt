@@ -1,4 +1,4 @@
--- Laws of growth in words of sets: document 01, "Growth and clusters".
+-- Laws of growth in words of sets: docs/RULES.md, "Growth".
 use Prim.Native.Nat.{ℕ, suc, _≤_, _<_}
 use mathlib.Core.Path.{_≡_}
 use mathlib.Core.List.{List, [], _∷_}

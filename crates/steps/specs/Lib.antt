@@ -1,4 +1,4 @@
--- The steps of document 01: what the contracts of the decoder and of the marker cite.
+-- The steps of docs/RULES.md, "Growth" to "Marking": what the contracts of the decoder and of the marker cite.
 pub mod Graph
 pub mod Rows
 pub mod Growth

@@ -1,4 +1,4 @@
--- The marker: document 01, "Correction list and marker".
+-- The marker: docs/RULES.md, "Marking".
 use Prim.Native.Nat.{ℕ}
 use mathlib.Core.List.{List, [], _∷_}
 use mathlib.Core.Bool.{Bool, true, false, cond, not, _&&_, xor}

@@ -1,4 +1,4 @@
--- Peeling of a grown cluster: document 01, "Growth and clusters", last part.
+-- Peeling of a grown cluster: docs/RULES.md, "Peeling".
 use Prim.Native.Nat.{ℕ, zero, suc}
 use mathlib.Core.List.{List, [], _∷_, _++_, map}
 use mathlib.Core.Bool.{Bool, true, false, cond, not, _&&_}

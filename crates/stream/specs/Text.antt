@@ -1,4 +1,4 @@
--- An input that comes in parts: document 01, "Frames".
+-- An input that comes in parts: docs/RULES.md, "Frames".
 use Prim.Native.Nat.{ℕ}
 use mathlib.Core.Path.{_≡_}
 use mathlib.Core.List.{List, _++_}

@@ -1,4 +1,4 @@
-// Document 01, "Frames": an input that comes in blocks. A line is gathered in a buffer, answered at its line feed, and the text goes behind what the output holds.
+// docs/RULES.md, "Frames": an input that comes in blocks. A line is gathered in a buffer, answered at its line feed, and the text goes behind what the output holds.
 use codes::Refusal;
 use session::Numbers;
 use session::Told;

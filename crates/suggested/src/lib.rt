@@ -1,4 +1,4 @@
-// Document 01, "Decomposed model": every suggested component adds p to the last mechanism with equal lists, or to a new one.
+// docs/RULES.md, "Decomposition": every suggested component adds p to the last mechanism with equal lists, or to a new one.
 use last_equal::Span;
 ghost use mathlib.Core.Path.{_≡_};
 ghost use mathlib.Core.List.{List};

@@ -1,4 +1,4 @@
--- Document 01's cases of the weight, with some at the edges, by computation.
+-- The cases of the weight, with some at the edges, by computation.
 use mathlib.Core.Path.{_≡_, refl}
 use lib.Ieee as Ieee
 use lib.Ieee.{nan, binary64, ofBits}

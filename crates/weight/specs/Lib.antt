@@ -1,4 +1,4 @@
--- The weight of an edge as document 01 states it, its cases and its laws.
+-- The weight of an edge as docs/RULES.md, "Graphs", states it, its cases and its laws.
 pub mod Cases
 pub mod Laws
 pub mod Weight

@@ -1,4 +1,4 @@
--- The weight of an edge, in the words of document 01. Every operation is one of binary64 and rounds once. Definitions only.
+-- The weight of an edge, in the words of docs/RULES.md, "Graphs". Every operation is one of binary64 and rounds once. Definitions only.
 use Prim.Native.Nat.{ℕ, zero, suc, _+_, _-_, _*_, _/_, _%_, _^_}
 use mathlib.Core.Bool.{Bool, false, cond, _&&_, _||_}
 use lib.IntN.{pos}

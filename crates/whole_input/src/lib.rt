@@ -1,4 +1,4 @@
-// Document 01, "Frames": an input that lies whole in memory, answered from its first byte to its end.
+// docs/RULES.md, "Frames": an input that lies whole in memory, answered from its first byte to its end.
 use stream::Fed;
 use stream::Place;
 ghost use mathlib.Core.Path.{_≡_};

@@ -1,4 +1,4 @@
-//! The logarithm that document 01 states under "Edge graph". The caller works out y = (1-p)/p.
+//! The logarithm that docs/RULES.md states under "Graphs". The caller works out y = (1-p)/p.
 pub fn stated(y: f64) -> f64 {
     if y <= 1.0 {
         return 0.0;

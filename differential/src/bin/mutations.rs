@@ -1,6 +1,6 @@
 //! mutations [CASES] [SEED]
 //!
-//! Puts each slip that document 01 warns of, and each misreading of it, into the second implementation, and shows that the comparison tells it
+//! Puts each slip that a rewrite invites, and each misreading of it, into the second implementation, and shows that the comparison tells it
 //! from the original by what the C boundary tells: how many cases do, and the smallest that one of them reduces to.
 
 use differential::case::{case, Case, Kind};

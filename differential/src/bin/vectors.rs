@@ -2,7 +2,7 @@
 //!
 //! Inputs of program `bench` with the outputs that it must write, the answers coming from the original. `replay` writes one text: for each case
 //! a line `= NUMBER NAME`, its input, a line `-` (`-.` if the input's last line has no line feed), its output; a last line `=`. `pairs`
-//! writes DIR/NUMBER.in and DIR/NUMBER.out. `gate` writes the list that program `replay` runs: the same inputs, document 01's example with each
+//! writes DIR/NUMBER.in and DIR/NUMBER.out. `gate` writes the list that program `replay` runs: the same inputs, the example with each
 //! byte changed and cut at each length, and the memory experiment of examples/; for each case the lengths of its input and of its output, eight hexadecimal digits each, and a line feed,
 //! then both. `memory` writes FILE.in and FILE.out: a memory experiment of a rotated surface code with d = 5.
 
@@ -41,7 +41,7 @@ fn example() -> Model {
     model(2, 1, vec![m(0.25, &[0], &[0]), m(0.25, &[0, 1], &[])])
 }
 
-/// Document 01's cases.
+/// The example's cases.
 fn worked() -> Vec<Vector> {
     let pair = model(2, 1, vec![m(0.25, &[0, 1], &[])]);
     let triple = |p: f64| model(3, 1, vec![m(0.25, &[0], &[0]), m(0.25, &[1, 2], &[]), m(p, &[0, 1, 2], &[0])]);
@@ -269,7 +269,7 @@ fn vectors(count: usize, seed: u64) -> Vec<Vector> {
     out
 }
 
-/// Document 01's example with each byte changed, and cut at each length.
+/// The example with each byte changed, and cut at each length.
 fn broken() -> Vec<Vector> {
     let good = shots(&example(), &[(2, 1)]);
     let changed = (0..good.len()).map(|at| {
