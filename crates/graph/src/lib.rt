@@ -47,7 +47,7 @@ fn join(
     ensures { λ r. ⌜ Joins observables count (λ es. nextEdges detectors observables i (mechanismAt head place (now («component_detectors» .entry)) (now («component_observables» .entry)) (now (entries .entry))) (into es)) r (slices (now («edge_u» .entry)) (now («edge_v» .entry)) (now («edge_weight» .entry)) (now («edge_obs» .entry)) (now («edge_p» .entry))) (slices (now («edge_u» .exit)) (now («edge_v» .exit)) (now («edge_weight» .exit)) (now («edge_obs» .exit)) (now («edge_p» .exit)))
         × ChainedBy r (slices (now («edge_u» .exit)) (now («edge_v» .exit)) (now («edge_weight» .exit)) (now («edge_obs» .exit)) (now («edge_p» .exit))) (now (first .exit)) (now (next .exit)) ⌝ }
 {
-    let checked = dem::check_mechanism(
+    let checked = mechanism_check::check_mechanism(
         detectors,
         observables,
         i,
@@ -203,7 +203,7 @@ fn check_slices(
     if let Checked::Refused(r) = counts {
         return Checked::Refused(r);
     }
-    let held = dem::check_tables(
+    let held = model_tables::check_tables(
         mechanisms,
         probability,
         detector_counts,

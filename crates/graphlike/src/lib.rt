@@ -38,7 +38,7 @@ fn check(
     if let Checked::Refused(r) = counts {
         return Checked::Refused(r);
     }
-    let held = dem::check_tables(
+    let held = model_tables::check_tables(
         mechanisms,
         probability,
         detector_counts,
@@ -75,7 +75,7 @@ fn check(
     if !model_lengths::scratch_long(detectors, mechanisms, scratch) {
         return Checked::Refused(Refusal::Short);
     }
-    dem::check_mechanisms(
+    model_tables::check_mechanisms(
         detectors,
         observables,
         mechanisms,

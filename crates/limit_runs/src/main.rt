@@ -1,4 +1,4 @@
-// Runs packed::try_from_shot_major, dem::check_model and marker::mark on the cases of standard input. Writes a line for each: its name and the answer.
+// Runs packed::try_from_shot_major, model_tables::check_model and marker::mark on the cases of standard input. Writes a line for each: its name and the answer.
 //
 // A case is a line of fields with bars between them: the crate that is called, the name of the case, and numbers.
 //   packed|NAME|shots width length|words
@@ -297,7 +297,7 @@ fn check(
 ) -> Checked {
     let none = [0u8; 17];
     let empty: &[u8] = &none;
-    dem::check_model(
+    model_tables::check_model(
         detectors,
         observables,
         1,

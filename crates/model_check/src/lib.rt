@@ -70,7 +70,7 @@ pub fn check_read(
         return refuse(Refusal::Short, probability);
     }
     probabilities(probability_bits, mechanisms, probability);
-    let checked = dem::check_model(
+    let checked = model_tables::check_model(
         n.detectors,
         n.observables,
         mechanisms,
