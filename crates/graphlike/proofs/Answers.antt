@@ -191,11 +191,6 @@ module _ (D n : ℕ) (t was : Tables) (starts before last first next numbers mas
 
 -- ---- the answer
 
--- the lent places, as the code works them out
-pub places-are : (a b c d : ℕ) (was : Tables) → a ≡ min (length (was .observable-counts)) (length (was .component-counts)) → b ≡ min (length (was .detector-counts)) a
-    → c ≡ min (length (was .probability)) b → d ≡ length (was .entries) → placesOf (record { mechanisms = c; entries = d }) ≡ roomOf was
-places-are a b c d was p q r s = rw (r, q, p, s)
-
 -- tables of the same lengths are the same once they are zero
 pub same-zero : (a b : Tables) → length (a .probability) ≡ length (b .probability) → length (a .detector-counts) ≡ length (b .detector-counts)
     → length (a .observable-counts) ≡ length (b .observable-counts) → length (a .component-counts) ≡ length (b .component-counts)

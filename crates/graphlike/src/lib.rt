@@ -9,7 +9,6 @@ use codes::Checked;
 use codes::Refusal;
 use decompose::Decomposed;
 use decompose::Scratch;
-use suggested::Size;
 
 // The limits (1), all lengths (2), then all mechanisms in order. Long for its parameters, one a line.
 fn check(
@@ -146,12 +145,15 @@ fn decompose_accepted(
     requires { ⌜ Lent detectors mechanisms (tables (now probability) (now «detector_counts») (now «observable_counts») (now «component_counts») (now «component_detectors») (now «component_observables») (now entries)) (tables (now «out_probability») (now «out_detector_counts») (now «out_observable_counts») (now «out_component_counts») (now «out_component_detectors») (now «out_component_observables») (now «out_entries»)) (scratchOf (now starts) (now before) (now «last_of») (now «first_of») (now «next_of») (now numbers) (now masks) (now words0) (now words1) (now earlier)) ⌝ }
     ensures { λ r. ⌜ Decomposes (decompose (roomOf (tables (now («out_probability» .entry)) (now («out_detector_counts» .entry)) (now («out_observable_counts» .entry)) (now («out_component_counts» .entry)) (now («out_component_detectors» .entry)) (now («out_component_observables» .entry)) (now («out_entries» .entry)))) (modelOf mechanisms (tables (now (probability .entry)) (now («detector_counts» .entry)) (now («observable_counts» .entry)) (now («component_counts» .entry)) (now («component_detectors» .entry)) (now («component_observables» .entry)) (now (entries .entry))))) r (tables (now («out_probability» .entry)) (now («out_detector_counts» .entry)) (now («out_observable_counts» .entry)) (now («out_component_counts» .entry)) (now («out_component_detectors» .entry)) (now («out_component_observables» .entry)) (now («out_entries» .entry))) (tables (now («out_probability» .exit)) (now («out_detector_counts» .exit)) (now («out_observable_counts» .exit)) (now («out_component_counts» .exit)) (now («out_component_detectors» .exit)) (now («out_component_observables» .exit)) (now («out_entries» .exit))) ⌝ }
 {
-    let fewest = model_lengths::least(out_observable_counts.len(), out_component_counts.len());
-    let fewer = model_lengths::least(out_detector_counts.len(), fewest);
-    let room = Size {
-        mechanisms: model_lengths::least(out_probability.len(), fewer),
-        entries: out_entries.len(),
-    };
+    let room = model_lengths::room(
+        out_probability,
+        out_detector_counts,
+        out_observable_counts,
+        out_component_counts,
+        out_component_detectors,
+        out_component_observables,
+        out_entries,
+    );
     let made = decompose::decompose_checked(
         mechanisms,
         room,

@@ -6,9 +6,11 @@ ghost use lib.Dec.{leb};
 ghost use Rattle.codes.specs.Limits.{maxMechanisms};
 ghost use Rattle.dem.specs.Tables.{columnsHold, listsHold};
 ghost use Rattle.dem.specs.Positions.{tables};
-ghost use Rattle.decompose.specs.Call.{scratchLong};
+ghost use Rattle.suggested.specs.Held.{placesOf};
+ghost use Rattle.decompose.specs.Call.{roomOf, scratchLong};
 use decompose::Scratch;
 use dem::Place;
+use suggested::Size;
 
 // Whether a slice is long enough, and so are the others.
 pub fn fits(need: usize, len: usize, others: bool) -> bool
@@ -17,7 +19,7 @@ pub fn fits(need: usize, len: usize, others: bool) -> bool
     need <= len && others
 }
 
-pub fn least(a: usize, b: usize) -> usize
+fn least(a: usize, b: usize) -> usize
     ensures { λ r. ⌜ r ≡ min a b ⌝ }
 {
     if a < b {
@@ -62,6 +64,26 @@ pub fn output_long(
         ),
     );
     columns && lists
+}
+
+// The lent places of the output tables: mechanisms by the shortest of the four columns, entries by the last table.
+pub fn room(
+    out_probability: &[f64],
+    out_detector_counts: &[u8],
+    out_observable_counts: &[u8],
+    out_component_counts: &[u8],
+    out_component_detectors: &[u8],
+    out_component_observables: &[u8],
+    out_entries: &[u32],
+) -> Size
+    ensures { λ r. ⌜ placesOf r ≡ roomOf (tables (now («out_probability» .entry)) (now («out_detector_counts» .entry)) (now («out_observable_counts» .entry)) (now («out_component_counts» .entry)) (now («out_component_detectors» .entry)) (now («out_component_observables» .entry)) (now («out_entries» .entry))) ⌝ }
+{
+    let fewest = least(out_observable_counts.len(), out_component_counts.len());
+    let fewer = least(out_detector_counts.len(), fewest);
+    Size {
+        mechanisms: least(out_probability.len(), fewer),
+        entries: out_entries.len(),
+    }
 }
 
 // And so are the scratch slices: a mechanism may bring 16 more.

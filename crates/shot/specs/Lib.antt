@@ -2,5 +2,4 @@
 pub mod Begin
 pub mod Blank
 pub mod Longer
-pub mod Rows
 pub mod Shots

@@ -1,4 +1,4 @@
--- `shot::light` meets its contract. Assumes nothing.
+-- `lit::light` meets its contract. Assumes nothing.
 use Prim.Native.Nat.{ℕ, _-_, _+_, _≤_, _<_}
 use mathlib.Core.Path.{_≡_, refl, sym, ap, _∙_}
 use mathlib.Core.List.{List, [], _∷_}
@@ -7,10 +7,10 @@ use native.Mathlib.Omega.{arith}
 use lib.ListN.{length, getD, set, take}
 use Rattle.columns.proofs.Columns.{column-length, keep-none, keep-then, keep-more}
 use Rattle.cells.specs.Tables.{lits, odds, knowns, hots, defects, active, seen, SameFlags, SameStacks}
-use Rattle.shot.proofs.Lights.{light-next, light-start, list-next}
+use Rattle.lit.proofs.Lights.{light-next, light-start, list-next}
 use Rattle.lists.specs.Lists.{member}
-use Rattle.shot.proofs.light.Statement.{statement}
-use Rattle.shot.proofs.light.Tie as tie
+use Rattle.lit.proofs.light.Statement.{statement}
+use Rattle.lit.proofs.light.Tie as tie
 
 abbrev Inv-loop : tie.InvT-loop
 Inv-loop d flags₀ stacks₀ l i₀ flags stacks i = (i ≤ l) × SameFlags (0 ∷ 1 ∷ 2 ∷ 3 ∷ []) flags₀ flags × SameStacks (1 ∷ 2 ∷ []) stacks₀ stacks

@@ -1,12 +1,12 @@
--- `shot::light_at` meets its contract. Assumes nothing.
+-- `lit::light_at` meets its contract. Assumes nothing.
 use mathlib.Core.Path.{_≡_, refl, ap, _∙_}
 use mathlib.Core.Bool.{false}
 use mathlib.Core.List.{[], _∷_}
 use native.Mathlib.Omega.{arith}
 use Rattle.columns.proofs.Columns.{keep-then, keep-more}
 use borrow.Author.Needs.{needs}
-use Rattle.shot.proofs.light_at.Statement.{statement}
-use Rattle.shot.proofs.light_at.Tie as tie
+use Rattle.lit.proofs.light_at.Statement.{statement}
+use Rattle.lit.proofs.light_at.Tie as tie
 
 set-flag-requires : tie.Need-set-flag-requires
 set-flag-requires c κs = (c .before .pre .1, c .before .pre .0, omega arith)

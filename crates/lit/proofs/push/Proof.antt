@@ -1,11 +1,11 @@
--- `shot::push` meets its contract. Assumes nothing.
+-- `lit::push` meets its contract. Assumes nothing.
 use mathlib.Core.Path.{_≡_, refl, ap, _∙_}
 use mathlib.Core.List.{[], _∷_}
 use native.Mathlib.Omega.{arith}
 use Rattle.columns.proofs.Columns.{keep-then, keep-more}
 use borrow.Author.Needs.{needs}
-use Rattle.shot.proofs.push.Statement.{statement}
-use Rattle.shot.proofs.push.Tie as tie
+use Rattle.lit.proofs.push.Statement.{statement}
+use Rattle.lit.proofs.push.Tie as tie
 
 set-stack-requires : tie.Need-set-stack-requires
 set-stack-requires c κs = (c .before .pre .1, c .before .pre .0, omega arith)
