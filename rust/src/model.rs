@@ -193,6 +193,12 @@ impl Model {
     /// # Ok::<(), pavrenni::Error>(())
     /// ```
     ///
+    /// # Time
+    ///
+    /// The search for a cover takes time exponential in the size of a mechanism of many detectors whose pieces differ in
+    /// observables alone: bound the size of models from a source that is not trusted, or decompose them in a process
+    /// that can be ended.
+    ///
     /// # Errors
     ///
     /// In this order: 1 where a count is over its limit; by mechanism 5 and then 4; by mechanism 6 where it has no
