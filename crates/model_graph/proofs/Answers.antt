@@ -1,16 +1,19 @@
 -- The answers of the calls on tables into which an input was read.
-use Prim.Native.Nat.{ℕ, _+_, _*_, _≤_, min}
+use Prim.Native.Nat.{ℕ, _+_, _-_, _*_, _≤_, min}
 use native.Mathlib.Omega.{arith}
-use native.Mathlib.Nat.{mul-le-mul}
+use native.Mathlib.Nat.{mul-le-mul, sub-zero}
 use mathlib.Core.Path.{_≡_, refl, sym, ap, _∙_, subst}
 use mathlib.Core.List.{List, [], _∷_}
 use mathlib.Core.Bool.{Bool, true, false, not, _&&_}
 use lib.IntN.{pos}
-use lib.ListN.{length, drop, replicate, length-append}
+use lib.ListN.{length, take, drop, replicate, length-append}
+use lib.Seq.{take-all, take-length}
 use lib.Dec.{leb}
 use lib.Ieee.{Float, fin}
-use borrow.Author.Tests.{leb-true, le-leb, le-ltb}
-use Rattle.lists.proofs.Truth.{and-left, and-right}
+use borrow.Author.Tests.{leb-true, leb-false, le-leb, le-ltb}
+use Rattle.lists.proofs.Truth.{case-of, and-left, and-right}
+use Rattle.columns.specs.Columns.{column}
+use Rattle.columns.proofs.Columns.{column-length}
 use Rattle.codes.specs.declared.Refusal.{Refusal}
 use Rattle.codes.specs.declared.Refusal.the-variants.{Short}
 use Rattle.codes.specs.declared.Checked.{Checked}
@@ -47,7 +50,7 @@ use Rattle.reader.specs.Columns.{Columns, columns, Holds}
 use Rattle.model_check.specs.ModelCheck.{modelTables, fromBits, checkRead, ModelChecked}
 use Rattle.model_check.proofs.ReadModel.{checked-refused, checked-accepted}
 use Rattle.model_graph.specs.Graph.{places, splitRead, compileSplit, graphRead, zeros, heldTables, heldScratch, splitIn, edgesIn, graphIn}
-use Rattle.model_graph.specs.Answers.{Sized, Wide, DecomposedRead, GraphRead}
+use Rattle.model_graph.specs.Answers.{Sized, Wide, held, DecomposedRead, GraphRead, GraphBy}
 
 -- ---- the model checked and decomposed
 
@@ -320,3 +323,22 @@ module _ (n : State) (c : Columns) (left : Tables) (entry exit : Slices) (r : Co
     pub graph-compiled : GraphRead n c entry r exit
     unfolding graphIn
     graph-compiled = record { compiles = by (splitIn n c) (d .answer) (d .tables); read = graph-same n c entry few }
+
+-- ---- columns taken out of the table of counts
+
+take-within : (m : ℕ) (l : List ℕ) → take (min m (length l)) l ≡ take m l
+take-within m l =
+    case-of (leb m (length l))
+    (λ (t : leb m (length l) ≡ true). let h = leb-true m (length l) t in let e : min m (length l) ≡ m = omega arith in ap (λ (k : ℕ). take k l) e)
+    (λ (f : leb m (length l) ≡ false).
+    let h = leb-false m (length l) f in
+    let e : min m (length l) ≡ length l = omega arith in
+    ap (λ (k : ℕ). take k l) e ∙ take-length l ∙ sym (take-all m l (omega arith)))
+
+pub held-is : (k m : ℕ) (counts : List (List ℕ)) (out : List ℕ) → m ≡ min 1024 (length counts) → take m out ≡ take m (column 0 k counts) → take (m - 0) out ≡ held k counts
+held-is k m counts out e q =
+    ap (λ (j : ℕ). take j out) (sub-zero m) ∙ q ∙ ap (λ (j : ℕ). take j (column 0 k counts)) (e ∙ ap (min 1024) (sym (column-length 0 k counts))) ∙ take-within 1024 (column 0 k counts)
+
+pub graph-by : (n : State) (bs ds os cs cds cos ds′ os′ cs′ cds′ cos′ es : List ℕ) (entry : Slices) (r : Compiled) (exit : Slices) → ds ≡ ds′ → os ≡ os′ → cs ≡ cs′ → cds ≡ cds′ → cos ≡ cos′
+    → GraphBy n bs ds os cs cds cos es entry r exit → GraphBy n bs ds′ os′ cs′ cds′ cos′ es entry r exit
+graph-by n bs ds os cs cds cos ds′ os′ cs′ cds′ cos′ es entry r exit e1 e2 e3 e4 e5 g = rw (← e1, ← e2, ← e3, ← e4, ← e5) g

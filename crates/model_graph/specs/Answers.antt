@@ -2,7 +2,8 @@
 use Prim.Native.Nat.{ℕ, _≤_}
 use mathlib.Core.Path.{_≡_}
 use mathlib.Core.List.{List}
-use lib.ListN.{length}
+use lib.ListN.{length, take}
+use Rattle.columns.specs.Columns.{column}
 use Rattle.dem.specs.Model.{ErrorMechanism}
 use Rattle.dem.specs.Tables.{Tables, tablesWritten}
 use Rattle.dem.specs.Decompose.{into}
@@ -31,6 +32,10 @@ pub record Wide (t : Slices) : Type 0 where
   pub others : 1024 ≤ length (t .edge-v)
   pub weights : 1024 ≤ length (t .edge-weight)
   pub rows : 2048 ≤ length (t .edge-obs)
+
+-- a column of the table of counts, as far as rows are held
+abbrev pub held : ℕ → List (List ℕ) → List ℕ
+held k counts = take 1024 (column 0 k counts)
 
 -- ---- answers
 

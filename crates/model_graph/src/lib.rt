@@ -3,6 +3,7 @@ use codes::Checked;
 use decompose::Decomposed;
 use frames::State;
 use graph::Compiled;
+ghost use Prim.Native.Nat.{min};
 ghost use mathlib.Core.Path.{_≡_};
 ghost use mathlib.Core.List.{[]};
 ghost use lib.ListN.{length, replicate};
@@ -10,7 +11,7 @@ ghost use Rattle.dem.specs.Positions.{tables};
 ghost use Rattle.edges.specs.Tables.{slices};
 ghost use Rattle.graph.specs.Outcome.{outcome, Compiles};
 ghost use Rattle.model_graph.specs.Graph.{zeros, heldTables};
-ghost use Rattle.model_graph.specs.Answers.{DecomposedBy, GraphBy};
+ghost use Rattle.model_graph.specs.Answers.{DecomposedBy, GraphBy, held};
 
 // ---- tables of zeros
 
@@ -150,8 +151,8 @@ fn compile(
     )
 }
 
-// The graph of the model that was read, into its tables. Long for its parameters, one a line.
-pub fn model_graph(
+// The graph of the model in columns, into its tables. Long for its parameters, one a line.
+fn graph_of(
     n: State,
     probability_bits: &[u64],
     detector_counts: &[u8],
@@ -210,4 +211,49 @@ pub fn model_graph(
             edge_obs,
         ),
     }
+}
+
+// As many rows as are held, of so many.
+fn rows_held(n: usize) -> usize
+    ensures { λ r. ⌜ r ≡ min 1024 n ⌝ }
+{
+    if n < frames::MAX_MECHANISMS {
+        return n;
+    }
+    frames::MAX_MECHANISMS
+}
+
+// The graph of the model that was read, into its tables. Of the table of counts the first 1,024 rows are read, as many as lines fill, and no others.
+pub fn model_graph(
+    n: State,
+    probability_bits: &[u64],
+    counts: &[[u8; 5]],
+    entries: &[u32],
+    edge_u: &mut [u32],
+    edge_v: &mut [u32],
+    edge_weight: &mut [f64],
+    edge_obs: &mut [u64],
+) -> Compiled
+    ensures { λ r. ⌜ GraphBy n (now («probability_bits» .entry)) (held 0 (now (counts .entry))) (held 1 (now (counts .entry))) (held 2 (now (counts .entry))) (held 3 (now (counts .entry))) (held 4 (now (counts .entry))) (now (entries .entry)) (slices (now («edge_u» .entry)) (now («edge_v» .entry)) (now («edge_weight» .entry)) (now («edge_obs» .entry)) []) r (slices (now («edge_u» .exit)) (now («edge_v» .exit)) (now («edge_weight» .exit)) (now («edge_obs» .exit)) []) ⌝ }
+{
+    let rows = rows_held(counts.len());
+    let detector_counts = counts::column_of(counts, counts::DETECTORS, rows);
+    let observable_counts = counts::column_of(counts, counts::OBSERVABLES, rows);
+    let component_counts = counts::column_of(counts, counts::COMPONENTS, rows);
+    let component_detectors = counts::column_of(counts, counts::COMPONENT_DETECTORS, rows);
+    let component_observables = counts::column_of(counts, counts::COMPONENT_OBSERVABLES, rows);
+    graph_of(
+        n,
+        probability_bits,
+        &detector_counts[0..rows],
+        &observable_counts[0..rows],
+        &component_counts[0..rows],
+        &component_detectors[0..rows],
+        &component_observables[0..rows],
+        entries,
+        edge_u,
+        edge_v,
+        edge_weight,
+        edge_obs,
+    )
 }

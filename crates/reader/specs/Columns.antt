@@ -4,12 +4,13 @@ use mathlib.Core.Path.{_≡_}
 use mathlib.Core.List.{List, _++_, map}
 use mathlib.Core.Bool.{Bool, true, false, cond, _&&_}
 use mathlib.Core.Option.{Option, none, some}
-use lib.ListN.{length, getD, drop, set}
+use lib.ListN.{length, getD, take, drop, set}
 use lib.Seq.{sets}
 use lib.Dec.{leb}
 use Rattle.codes.specs.declared.Refusal.{Refusal}
 use Rattle.codes.specs.declared.Refusal.the-variants as refusal
 use Rattle.bits.specs.Rows.{words}
+use Rattle.columns.specs.Columns.{column}
 use Rattle.hex.specs.Hex.{bytesOf}
 use Rattle.dem.specs.Model.{Symptom}
 use Rattle.dem.specs.Tables.{written}
@@ -35,7 +36,7 @@ pub record Columns : Type 0 where
   pub row : List ℕ
   pub truth : List ℕ
 
--- the nine slices as tables
+-- nine lists as tables
 abbrev pub columns : List ℕ → List ℕ → List ℕ → List ℕ → List ℕ → List ℕ → List ℕ → List ℕ → List ℕ → Columns
 columns bs ds os cs cds cos es ws ts = record {
   bits = bs;
@@ -48,6 +49,10 @@ columns bs ds os cs cds cos es ws ts = record {
   row = ws;
   truth = ts;
 }
+
+-- the four tables as such: the columns of the table of counts, and the words of a shot, four of its row and then those of the true observables
+abbrev pub columnsOf : List ℕ → List (List ℕ) → List ℕ → List ℕ → Columns
+columnsOf bs counts es shot = columns bs (column 0 0 counts) (column 0 1 counts) (column 0 2 counts) (column 0 3 counts) (column 0 4 counts) es (take 4 shot) (drop 4 shot)
 
 -- a mechanism may have more components than a byte counts: 255 stands for 255 and more, which the model check refuses alike
 abbrev pub byteOf : ℕ → ℕ

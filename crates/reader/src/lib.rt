@@ -4,18 +4,19 @@ use frames::Line;
 use frames::State;
 ghost use mathlib.Core.Path.{_≡_};
 ghost use mathlib.Core.Bool.{true};
-ghost use Prim.Native.Nat.{_+_, _-_, _<_, _≤_};
+ghost use Prim.Native.Nat.{_+_, _-_, _<_, _≤_, min};
 ghost use lib.ListN.{length, getD, take, drop, set};
 ghost use lib.Seq.{sets};
 ghost use Rattle.hex.specs.Hex.{bytesOf, number};
 ghost use Rattle.frames.specs.Frames.{symptomLong, symptomOf, frameOf};
 ghost use Rattle.frames.specs.Counts.{sizeOf};
-ghost use Rattle.reader.specs.Columns.{columns, byteOf, longEnough, listed, stored, Storable, LineRead};
+ghost use Rattle.columns.specs.Columns.{column, Wide};
+ghost use Rattle.reader.specs.Columns.{columnsOf, byteOf, longEnough, listed, stored, Storable, LineRead};
 
-// The words of 256 detectors and of 128 observables.
+// The words of a shot: its row, of 256 detectors, then the true values of 128 observables.
 pub const ROW_WORDS: usize = 4;
 
-pub const TRUTH_WORDS: usize = 2;
+pub const SHOT_WORDS: usize = 6;
 
 // One more component, as far as a byte counts.
 fn one_more(count: u8) -> u8
@@ -32,18 +33,17 @@ fn store_mechanism(
     line: &[u8],
     n: State,
     probability_bits: &mut [u64],
-    detector_counts: &mut [u8],
-    observable_counts: &mut [u8],
-    component_counts: &mut [u8],
+    counts: &mut [[u8; 5]],
     entries: &mut [u32],
 )
-    requires { ⌜ (symptomLong (drop 9 (bytesOf (now line))) ≡ true) × (n .mechanisms < length (now «probability_bits»)) × (n .mechanisms < length (now «detector_counts»))
-        × (n .mechanisms < length (now «observable_counts»)) × (n .mechanisms < length (now «component_counts»))
+    requires { ⌜ (symptomLong (drop 9 (bytesOf (now line))) ≡ true) × (n .mechanisms < length (now «probability_bits»)) × (n .mechanisms < length (now counts)) × Wide 5 (now counts)
         × (n .entries + sizeOf (symptomOf (drop 9 (bytesOf (now line)))) ≤ length (now entries)) ⌝ }
     ensures { λ _. ⌜ (now («probability_bits» .exit) ≡ set (now («probability_bits» .entry)) (n .mechanisms) (number (take 8 (drop 1 (bytesOf (now (line .entry)))))))
-        × (now («detector_counts» .exit) ≡ set (now («detector_counts» .entry)) (n .mechanisms) (length (symptomOf (drop 9 (bytesOf (now (line .entry)))) .detectors)))
-        × (now («observable_counts» .exit) ≡ set (now («observable_counts» .entry)) (n .mechanisms) (length (symptomOf (drop 9 (bytesOf (now (line .entry)))) .observables)))
-        × (now («component_counts» .exit) ≡ set (now («component_counts» .entry)) (n .mechanisms) 0)
+        × (column 0 0 (now (counts .exit)) ≡ set (column 0 0 (now (counts .entry))) (n .mechanisms) (length (symptomOf (drop 9 (bytesOf (now (line .entry)))) .detectors)))
+        × (column 0 1 (now (counts .exit)) ≡ set (column 0 1 (now (counts .entry))) (n .mechanisms) (length (symptomOf (drop 9 (bytesOf (now (line .entry)))) .observables)))
+        × (column 0 2 (now (counts .exit)) ≡ set (column 0 2 (now (counts .entry))) (n .mechanisms) 0)
+        × (column 0 3 (now (counts .exit)) ≡ column 0 3 (now (counts .entry)))
+        × (column 0 4 (now (counts .exit)) ≡ column 0 4 (now (counts .entry)))
         × (now (entries .exit) ≡ sets (now (entries .entry)) (n .entries) (listed (symptomOf (drop 9 (bytesOf (now (line .entry))))))) ⌝ }
 {
     let m = n.mechanisms;
@@ -52,27 +52,21 @@ fn store_mechanism(
     let o = hex::byte_at(line, 10);
     let size = d as usize + o as usize;
     probability_bits[m] = hex::u64_at(line, 1);
-    detector_counts[m] = d;
-    observable_counts[m] = o;
-    component_counts[m] = 0;
+    counts::set_count(counts, m, counts::DETECTORS, d);
+    counts::set_count(counts, m, counts::OBSERVABLES, o);
+    counts::set_count(counts, m, counts::COMPONENTS, 0);
     hex::read_u16s(line, 11, size, entries, at);
 }
 
 // 03: a component of the last mechanism.
-fn store_component(
-    line: &[u8],
-    n: State,
-    component_counts: &mut [u8],
-    component_detectors: &mut [u8],
-    component_observables: &mut [u8],
-    entries: &mut [u32],
-)
-    requires { ⌜ (symptomLong (drop 1 (bytesOf (now line))) ≡ true) × (0 < n .mechanisms) × (n .mechanisms ≤ length (now «component_counts»))
-        × (n .components < length (now «component_detectors»)) × (n .components < length (now «component_observables»))
+fn store_component(line: &[u8], n: State, counts: &mut [[u8; 5]], entries: &mut [u32])
+    requires { ⌜ (symptomLong (drop 1 (bytesOf (now line))) ≡ true) × (0 < n .mechanisms) × (n .mechanisms ≤ length (now counts)) × (n .components < length (now counts)) × Wide 5 (now counts)
         × (n .entries + sizeOf (symptomOf (drop 1 (bytesOf (now line)))) ≤ length (now entries)) ⌝ }
-    ensures { λ _. ⌜ (now («component_counts» .exit) ≡ set (now («component_counts» .entry)) (n .mechanisms - 1) (byteOf (getD (now («component_counts» .entry)) (n .mechanisms - 1) 0 + 1)))
-        × (now («component_detectors» .exit) ≡ set (now («component_detectors» .entry)) (n .components) (length (symptomOf (drop 1 (bytesOf (now (line .entry)))) .detectors)))
-        × (now («component_observables» .exit) ≡ set (now («component_observables» .entry)) (n .components) (length (symptomOf (drop 1 (bytesOf (now (line .entry)))) .observables)))
+    ensures { λ _. ⌜ (column 0 0 (now (counts .exit)) ≡ column 0 0 (now (counts .entry)))
+        × (column 0 1 (now (counts .exit)) ≡ column 0 1 (now (counts .entry)))
+        × (column 0 2 (now (counts .exit)) ≡ set (column 0 2 (now (counts .entry))) (n .mechanisms - 1) (byteOf (getD (column 0 2 (now (counts .entry))) (n .mechanisms - 1) 0 + 1)))
+        × (column 0 3 (now (counts .exit)) ≡ set (column 0 3 (now (counts .entry))) (n .components) (length (symptomOf (drop 1 (bytesOf (now (line .entry)))) .detectors)))
+        × (column 0 4 (now (counts .exit)) ≡ set (column 0 4 (now (counts .entry))) (n .components) (length (symptomOf (drop 1 (bytesOf (now (line .entry)))) .observables)))
         × (now (entries .exit) ≡ sets (now (entries .entry)) (n .entries) (listed (symptomOf (drop 1 (bytesOf (now (line .entry))))))) ⌝ }
 {
     let last = n.mechanisms - 1;
@@ -81,137 +75,84 @@ fn store_component(
     let d = hex::byte_at(line, 1);
     let o = hex::byte_at(line, 2);
     let size = d as usize + o as usize;
-    component_counts[last] = one_more(component_counts[last]);
-    component_detectors[c] = d;
-    component_observables[c] = o;
+    let more = one_more(counts::count(counts, last, counts::COMPONENTS));
+    counts::set_count(counts, last, counts::COMPONENTS, more);
+    counts::set_count(counts, c, counts::COMPONENT_DETECTORS, d);
+    counts::set_count(counts, c, counts::COMPONENT_OBSERVABLES, o);
     hex::read_u16s(line, 3, size, entries, at);
 }
 
-// A line that was answered by numbers: its frame into the tables. Long for the nine tables that each call names. Long for its parameters, one a line.
+// A line that was answered by numbers: its frame into the tables.
 fn store(
     line: &[u8],
     n: State,
     probability_bits: &mut [u64],
-    detector_counts: &mut [u8],
-    observable_counts: &mut [u8],
-    component_counts: &mut [u8],
-    component_detectors: &mut [u8],
-    component_observables: &mut [u8],
+    counts: &mut [[u8; 5]],
     entries: &mut [u32],
-    row: &mut [u64],
-    truth: &mut [u64],
+    shot: &mut [u64],
 )
-    requires { ⌜ Storable n (bytesOf (now line)) (columns (now «probability_bits») (now «detector_counts») (now «observable_counts») (now «component_counts») (now «component_detectors») (now «component_observables») (now entries) (now row) (now truth)) ⌝ }
-    ensures { λ _. ⌜ columns (now («probability_bits» .exit)) (now («detector_counts» .exit)) (now («observable_counts» .exit)) (now («component_counts» .exit)) (now («component_detectors» .exit)) (now («component_observables» .exit)) (now (entries .exit)) (now (row .exit)) (now (truth .exit))
-        ≡ stored n (frameOf (n .detectors) (n .observables) (bytesOf (now (line .entry)))) (columns (now («probability_bits» .entry)) (now («detector_counts» .entry)) (now («observable_counts» .entry)) (now («component_counts» .entry)) (now («component_detectors» .entry)) (now («component_observables» .entry)) (now (entries .entry)) (now (row .entry)) (now (truth .entry))) ⌝ }
+    requires { ⌜ Storable n (bytesOf (now line)) (columnsOf (now «probability_bits») (now counts) (now entries) (now shot)) × Wide 5 (now counts) ⌝ }
+    ensures { λ _. ⌜ columnsOf (now («probability_bits» .exit)) (now (counts .exit)) (now (entries .exit)) (now (shot .exit))
+        ≡ stored n (frameOf (n .detectors) (n .observables) (bytesOf (now (line .entry)))) (columnsOf (now («probability_bits» .entry)) (now (counts .entry)) (now (entries .entry)) (now (shot .entry))) ⌝ }
 {
     let kind = hex::byte_at(line, 0);
     if kind == 2 {
-        store_mechanism(
-            line,
-            n,
-            probability_bits,
-            detector_counts,
-            observable_counts,
-            component_counts,
-            entries,
-        );
+        store_mechanism(line, n, probability_bits, counts, entries);
         return;
     }
     if kind == 3 {
-        store_component(
-            line,
-            n,
-            component_counts,
-            component_detectors,
-            component_observables,
-            entries,
-        );
+        store_component(line, n, counts, entries);
         return;
     }
+    let row = ROW_WORDS;
     if kind == 5 {
         let words = bits::words(n.detectors);
-        hex::read_u64s(line, 1, words, row);
+        hex::read_u64s(line, 1, words, &mut shot[0..row]);
         return;
     }
     if kind == 6 {
         let words = bits::words(n.observables);
-        hex::read_u64s(line, 1, words, truth);
+        hex::read_u64s(line, 1, words, &mut shot[row..]);
         return;
     }
 }
 
-// A place in every table for all that is held. Long for a test of each table.
-fn long_enough(
-    probability_bits: usize,
-    detector_counts: usize,
-    observable_counts: usize,
-    component_counts: usize,
-    component_detectors: usize,
-    component_observables: usize,
-    entries: usize,
-    row: usize,
-    truth: usize,
-) -> bool
-    ensures { λ r. ⌜ r ≡ longEnough «probability_bits» «detector_counts» «observable_counts» «component_counts» «component_detectors» «component_observables» entries row truth ⌝ }
+// A place in every table for all that is held: as many mechanisms as components.
+fn long_enough(probability_bits: usize, counts: usize, entries: usize, shot: usize) -> bool
+    ensures { λ r. ⌜ r ≡ longEnough «probability_bits» counts counts counts counts counts entries (min 4 shot) (shot - 4) ⌝ }
 {
     if probability_bits < frames::MAX_MECHANISMS {
         return false;
     }
-    if detector_counts < frames::MAX_MECHANISMS {
-        return false;
-    }
-    if observable_counts < frames::MAX_MECHANISMS {
-        return false;
-    }
-    if component_counts < frames::MAX_MECHANISMS {
-        return false;
-    }
-    if component_detectors < frames::MAX_COMPONENTS {
-        return false;
-    }
-    if component_observables < frames::MAX_COMPONENTS {
+    if counts < frames::MAX_MECHANISMS {
         return false;
     }
     if entries < frames::MAX_ENTRIES {
         return false;
     }
-    if row < ROW_WORDS {
-        return false;
-    }
-    TRUTH_WORDS <= truth
+    SHOT_WORDS <= shot
 }
 
-// One line: the numbers of what is read with it, or a refusal, which writes nothing. Long for the nine tables that each call names. Long for its parameters, one a line.
+// One line: the numbers of what is read with it, or a refusal, which writes nothing. The rows of the counts have five entries each, as the contract's columns have it.
 pub fn read_line(
     line: &[u8],
     n: State,
     probability_bits: &mut [u64],
-    detector_counts: &mut [u8],
-    observable_counts: &mut [u8],
-    component_counts: &mut [u8],
-    component_detectors: &mut [u8],
-    component_observables: &mut [u8],
+    counts: &mut [[u8; 5]],
     entries: &mut [u32],
-    row: &mut [u64],
-    truth: &mut [u64],
+    shot: &mut [u64],
 ) -> Line
-    ensures { λ r. ⌜ LineRead (now (line .entry)) n (columns (now («probability_bits» .entry)) (now («detector_counts» .entry)) (now («observable_counts» .entry)) (now («component_counts» .entry)) (now («component_detectors» .entry)) (now («component_observables» .entry)) (now (entries .entry)) (now (row .entry)) (now (truth .entry)))
-        r (columns (now («probability_bits» .exit)) (now («detector_counts» .exit)) (now («observable_counts» .exit)) (now («component_counts» .exit)) (now («component_detectors» .exit)) (now («component_observables» .exit)) (now (entries .exit)) (now (row .exit)) (now (truth .exit))) ⌝ }
+    ensures { λ r. ⌜ LineRead (now (line .entry)) n (columnsOf (now («probability_bits» .entry)) (now (counts .entry)) (now (entries .entry)) (now (shot .entry)))
+        r (columnsOf (now («probability_bits» .exit)) (now (counts .exit)) (now (entries .exit)) (now (shot .exit))) ⌝ }
 {
     if frames::over(n) {
         return Line::Refused(Refusal::Limit);
     }
     if !long_enough(
         probability_bits.len(),
-        detector_counts.len(),
-        observable_counts.len(),
-        component_counts.len(),
-        component_detectors.len(),
-        component_observables.len(),
+        counts.len(),
         entries.len(),
-        row.len(),
-        truth.len(),
+        shot.len(),
     ) {
         return Line::Refused(Refusal::Short);
     }
@@ -219,19 +160,8 @@ pub fn read_line(
     match answer {
         Line::Refused(r) => Line::Refused(r),
         Line::Next(next) => {
-            store(
-                line,
-                n,
-                probability_bits,
-                detector_counts,
-                observable_counts,
-                component_counts,
-                component_detectors,
-                component_observables,
-                entries,
-                row,
-                truth,
-            );
+            counts::count_rows(counts);
+            store(line, n, probability_bits, counts, entries, shot);
             Line::Next(next)
         }
     }

@@ -1,11 +1,13 @@
 -- A line of any bytes.
-use Prim.Native.Nat.{ℕ, _≤_}
+use Prim.Native.Nat.{ℕ, _-_, _≤_, min}
 use native.Mathlib.Omega.{arith}
 use mathlib.Core.Path.{_≡_, refl, sym, ap, _∙_}
 use mathlib.Core.Bool.{true}
 use mathlib.Core.List.{List, []}
-use lib.ListN.{length}
+use lib.ListN.{length, take, drop, length-take, length-drop}
 use Rattle.codes.specs.declared.Refusal.{Refusal}
+use Rattle.columns.specs.Columns.{column}
+use Rattle.columns.proofs.Columns.{column-length}
 use Rattle.hex.specs.Hex.{bytesOf}
 use Rattle.dem.specs.Tables.{written}
 use Rattle.edges.specs.Tables.{Slices}
@@ -16,7 +18,7 @@ use Rattle.frames.specs.Frames.{kindOf}
 use Rattle.frames.specs.Input.{Input, Read, next, refused, readLine}
 use Rattle.frames.specs.Counts.{countsOf, answerOf}
 use Rattle.frames.proofs.Words.{row-read, shot-read}
-use Rattle.reader.specs.Columns.{Columns, columnsAt, longEnough, roomy, Holds, readBy, LineRead, columnsLeft}
+use Rattle.reader.specs.Columns.{Columns, columnsOf, columnsAt, longEnough, roomy, Holds, readBy, LineRead, columnsLeft}
 use Rattle.reader.proofs.Laws.{laws}
 use Rattle.model_graph.specs.Answers.{Sized, Wide}
 use Rattle.replies.specs.Last.{refusalText}
@@ -39,6 +41,24 @@ pub record Same (c d : Columns) : Type 0 where
   pub entries : length (d .entries) ≡ length (c .entries)
   pub row : length (d .row) ≡ length (c .row)
   pub truth : length (d .truth) ≡ length (c .truth)
+
+-- four slices that kept their lengths
+module _ (bs bs′ : List ℕ) (rows rows′ : List (List ℕ)) (es es′ ws ws′ : List ℕ) (e : length rows′ ≡ length rows) where
+  column-same : (k : ℕ) → length (column 0 k rows′) ≡ length (column 0 k rows)
+  column-same k = column-length 0 k rows′ ∙ e ∙ sym (column-length 0 k rows)
+
+  pub same-of : length bs′ ≡ length bs → length es′ ≡ length es → length ws′ ≡ length ws → Same (columnsOf bs rows es ws) (columnsOf bs′ rows′ es′ ws′)
+  same-of b l w = record {
+    bits = b;
+    detector-counts = column-same 0;
+    observable-counts = column-same 1;
+    component-counts = column-same 2;
+    component-detectors = column-same 3;
+    component-observables = column-same 4;
+    entries = l;
+    row = length-take 4 ws′ ∙ ap (min 4) w ∙ sym (length-take 4 ws);
+    truth = length-drop 4 ws′ ∙ ap (λ (k : ℕ). k - 4) w ∙ sym (length-drop 4 ws);
+  }
 
 roomy-same : (c d : Columns) → Same c d → roomy d ≡ roomy c
 roomy-same c d e = rw (e .bits, e .detector-counts, e .observable-counts, e .component-counts, e .component-detectors, e .component-observables, e .entries, e .row, e .truth) refl

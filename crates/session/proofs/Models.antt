@@ -3,9 +3,12 @@ use Prim.Native.Nat.{ℕ, _*_, _≤_}
 use native.Mathlib.Omega.{arith}
 use mathlib.Core.Path.{_≡_, refl, sym, ap, _∙_, subst}
 use mathlib.Core.List.{List, [], map}
-use lib.ListN.{length, length-map}
+use lib.ListN.{length, take, length-map}
+use lib.Seq.{take-all}
 use lib.Ieee.{Float}
 use Rattle.codes.specs.declared.Refusal.{Refusal}
+use Rattle.columns.specs.Columns.{column}
+use Rattle.columns.proofs.Columns.{column-length}
 use Rattle.bits.specs.Rows.{words}
 use Rattle.dem.specs.Tables.{written}
 use Rattle.graph.specs.declared.Compiled.{Compiled}
@@ -19,7 +22,8 @@ use Rattle.frames.specs.Counts.{countsOf}
 use Rattle.frames.proofs.FrameKinds.{held-of}
 use Rattle.reader.specs.Columns.{Columns, columns, Holds}
 use Rattle.model_graph.specs.Graph.{graphRead}
-use Rattle.model_graph.specs.Answers.{GraphRead, GraphBy}
+use Rattle.model_graph.specs.Answers.{held, GraphRead, GraphBy}
+use Rattle.model_graph.proofs.Answers.{graph-by}
 use Rattle.replies.specs.Last.{refusalText}
 use Rattle.session.specs.declared.Numbers.{Numbers}
 use Rattle.session.specs.declared.Told.{Told}
@@ -116,6 +120,18 @@ module _ (s : Session) (t : Input) (c : Columns) (g : Slices) (r : Reads s t 4 (
         (record { told = rw (← same) p; text = rw (← same) o }, tt)
 
 -- ---- the contract
+
+-- no row lies past those that are held
+pub whole-rows : (n : Numbers) (state : State) (bs : List ℕ) (rows : List (List ℕ)) (es : List ℕ) (g : Slices) (a : Compiled) (left : Slices)
+    → ModelSome n state bs (column 0 0 rows) (column 0 1 rows) (column 0 2 rows) (column 0 3 rows) (column 0 4 rows) es g
+    → GraphBy state bs (held 0 rows) (held 1 rows) (held 2 rows) (held 3 rows) (held 4 rows) es g a left
+    → GraphBy state bs (column 0 0 rows) (column 0 1 rows) (column 0 2 rows) (column 0 3 rows) (column 0 4 rows) es g a left
+whole-rows n state bs rows es g a left m =
+    let few : length rows ≤ 1024 = omega (arith, column-length 0 3 rows, m .read .reads .sizes .sized .component-detectors) in
+    graph-by state bs _ _ _ _ _ _ _ _ _ _ es g a left (all few 0) (all few 1) (all few 2) (all few 3) (all few 4)
+  where
+    all : length rows ≤ 1024 → (k : ℕ) → held k rows ≡ column 0 k rows
+    all few k = take-all 1024 (column 0 k rows) (omega (arith, few, column-length 0 k rows))
 
 module _ (n : Numbers) (state : State) (bs ds os cs cds cos es : List ℕ) (g : Slices) (a : Compiled) (left : Slices) (b : GraphBy state bs ds os cs cds cos es g a left) where
   -- the numbers of a session are those of its definition

@@ -8,13 +8,14 @@ ghost use mathlib.Core.Path.{_≡_};
 ghost use mathlib.Core.List.{[]};
 ghost use Prim.Native.Nat.{_+_, _*_, _≤_, _<_};
 ghost use lib.ListN.{length};
+ghost use Rattle.columns.specs.Columns.{column};
 ghost use Rattle.bits.specs.Rows.{words};
 ghost use Rattle.hex.specs.Hex.{bytesOf};
 ghost use Rattle.dem.specs.Tables.{written};
 ghost use Rattle.edges.specs.Tables.{slices};
 ghost use Rattle.frames.specs.Frames.{kindOf};
 ghost use Rattle.frames.specs.Input.{atEnd};
-ghost use Rattle.reader.specs.Columns.{columns};
+ghost use Rattle.reader.specs.Columns.{columnsOf};
 ghost use Rattle.replies.specs.Last.{refusalText, lastText};
 ghost use Rattle.session.specs.declared.Told.the-variants as told;
 ghost use Rattle.session.specs.Output.{begin, one, longestReply};
@@ -81,11 +82,7 @@ fn answer_model(
     n: Numbers,
     state: State,
     probability_bits: &[u64],
-    detector_counts: &[u8],
-    observable_counts: &[u8],
-    component_counts: &[u8],
-    component_detectors: &[u8],
-    component_observables: &[u8],
+    counts: &[[u8; 5]],
     entries: &[u32],
     edge_u: &mut [u32],
     edge_v: &mut [u32],
@@ -93,17 +90,13 @@ fn answer_model(
     edge_obs: &mut [u64],
     out: &mut [u8],
 ) -> Told
-    requires { ⌜ (5 ≤ length (now out)) × ModelSome n state (now «probability_bits») (now «detector_counts») (now «observable_counts») (now «component_counts») (now «component_detectors») (now «component_observables») (now entries) (slices (now «edge_u») (now «edge_v») (now «edge_weight») (now «edge_obs») []) ⌝ }
-    ensures { λ r. ⌜ ModelBy n state (now («probability_bits» .entry)) (now («detector_counts» .entry)) (now («observable_counts» .entry)) (now («component_counts» .entry)) (now («component_detectors» .entry)) (now («component_observables» .entry)) (now (entries .entry)) (slices (now («edge_u» .entry)) (now («edge_v» .entry)) (now («edge_weight» .entry)) (now («edge_obs» .entry)) []) r (slices (now («edge_u» .exit)) (now («edge_v» .exit)) (now («edge_weight» .exit)) (now («edge_obs» .exit)) []) (now (out .entry)) (now (out .exit)) ⌝ }
+    requires { ⌜ (5 ≤ length (now out)) × ModelSome n state (now «probability_bits») (column 0 0 (now counts)) (column 0 1 (now counts)) (column 0 2 (now counts)) (column 0 3 (now counts)) (column 0 4 (now counts)) (now entries) (slices (now «edge_u») (now «edge_v») (now «edge_weight») (now «edge_obs») []) ⌝ }
+    ensures { λ r. ⌜ ModelBy n state (now («probability_bits» .entry)) (column 0 0 (now (counts .entry))) (column 0 1 (now (counts .entry))) (column 0 2 (now (counts .entry))) (column 0 3 (now (counts .entry))) (column 0 4 (now (counts .entry))) (now (entries .entry)) (slices (now («edge_u» .entry)) (now («edge_v» .entry)) (now («edge_weight» .entry)) (now («edge_obs» .entry)) []) r (slices (now («edge_u» .exit)) (now («edge_v» .exit)) (now («edge_weight» .exit)) (now («edge_obs» .exit)) []) (now (out .entry)) (now (out .exit)) ⌝ }
 {
     let compiled = model_graph::model_graph(
         state,
         probability_bits,
-        detector_counts,
-        observable_counts,
-        component_counts,
-        component_detectors,
-        component_observables,
+        counts,
         entries,
         edge_u,
         edge_v,
@@ -208,33 +201,24 @@ fn answer_kind(
     n: Numbers,
     state: State,
     probability_bits: &[u64],
-    detector_counts: &[u8],
-    observable_counts: &[u8],
-    component_counts: &[u8],
-    component_detectors: &[u8],
-    component_observables: &[u8],
+    counts: &[[u8; 5]],
     entries: &[u32],
-    row: &[u64],
-    truth: &[u64],
+    shot: &[u64],
     edge_u: &mut [u32],
     edge_v: &mut [u32],
     edge_weight: &mut [f64],
     edge_obs: &mut [u64],
     out: &mut [u8],
 ) -> Told
-    requires { ⌜ (longestReply ≤ length (now out)) × ReadSome kind n state (columns (now «probability_bits») (now «detector_counts») (now «observable_counts») (now «component_counts») (now «component_detectors») (now «component_observables») (now entries) (now row) (now truth)) (slices (now «edge_u») (now «edge_v») (now «edge_weight») (now «edge_obs») []) ⌝ }
-    ensures { λ r. ⌜ AnswersKind kind n state (columns (now («probability_bits» .entry)) (now («detector_counts» .entry)) (now («observable_counts» .entry)) (now («component_counts» .entry)) (now («component_detectors» .entry)) (now («component_observables» .entry)) (now (entries .entry)) (now (row .entry)) (now (truth .entry))) (slices (now («edge_u» .entry)) (now («edge_v» .entry)) (now («edge_weight» .entry)) (now («edge_obs» .entry)) []) r (slices (now («edge_u» .exit)) (now («edge_v» .exit)) (now («edge_weight» .exit)) (now («edge_obs» .exit)) []) (now (out .entry)) (now (out .exit)) ⌝ }
+    requires { ⌜ (longestReply ≤ length (now out)) × ReadSome kind n state (columnsOf (now «probability_bits») (now counts) (now entries) (now shot)) (slices (now «edge_u») (now «edge_v») (now «edge_weight») (now «edge_obs») []) ⌝ }
+    ensures { λ r. ⌜ AnswersKind kind n state (columnsOf (now («probability_bits» .entry)) (now (counts .entry)) (now (entries .entry)) (now (shot .entry))) (slices (now («edge_u» .entry)) (now («edge_v» .entry)) (now («edge_weight» .entry)) (now («edge_obs» .entry)) []) r (slices (now («edge_u» .exit)) (now («edge_v» .exit)) (now («edge_weight» .exit)) (now («edge_obs» .exit)) []) (now (out .entry)) (now (out .exit)) ⌝ }
 {
     if kind == 4 {
         return answer_model(
             n,
             state,
             probability_bits,
-            detector_counts,
-            observable_counts,
-            component_counts,
-            component_detectors,
-            component_observables,
+            counts,
             entries,
             edge_u,
             edge_v,
@@ -244,11 +228,12 @@ fn answer_kind(
         );
     }
     if kind == 6 {
+        let row = reader::ROW_WORDS;
         return answer_shot(
             n,
             state,
-            row,
-            truth,
+            &shot[0..row],
+            &shot[row..],
             edge_u,
             edge_v,
             edge_weight,
@@ -273,38 +258,21 @@ pub fn answer_line(
     line: &[u8],
     n: Numbers,
     probability_bits: &mut [u64],
-    detector_counts: &mut [u8],
-    observable_counts: &mut [u8],
-    component_counts: &mut [u8],
-    component_detectors: &mut [u8],
-    component_observables: &mut [u8],
+    counts: &mut [[u8; 5]],
     entries: &mut [u32],
-    row: &mut [u64],
-    truth: &mut [u64],
+    shot: &mut [u64],
     edge_u: &mut [u32],
     edge_v: &mut [u32],
     edge_weight: &mut [f64],
     edge_obs: &mut [u64],
     out: &mut [u8],
 ) -> Told
-    requires { ⌜ (longestReply ≤ length (now out)) × Kept n (columns (now «probability_bits») (now «detector_counts») (now «observable_counts») (now «component_counts») (now «component_detectors») (now «component_observables») (now entries) (now row) (now truth)) (slices (now «edge_u») (now «edge_v») (now «edge_weight») (now «edge_obs») []) ⌝ }
-    ensures { λ r. ⌜ Answers (now (line .entry)) n (columns (now («probability_bits» .entry)) (now («detector_counts» .entry)) (now («observable_counts» .entry)) (now («component_counts» .entry)) (now («component_detectors» .entry)) (now («component_observables» .entry)) (now (entries .entry)) (now (row .entry)) (now (truth .entry))) (slices (now («edge_u» .entry)) (now («edge_v» .entry)) (now («edge_weight» .entry)) (now («edge_obs» .entry)) []) r (columns (now («probability_bits» .exit)) (now («detector_counts» .exit)) (now («observable_counts» .exit)) (now («component_counts» .exit)) (now («component_detectors» .exit)) (now («component_observables» .exit)) (now (entries .exit)) (now (row .exit)) (now (truth .exit))) (slices (now («edge_u» .exit)) (now («edge_v» .exit)) (now («edge_weight» .exit)) (now («edge_obs» .exit)) []) (now (out .entry)) (now (out .exit)) ⌝ }
+    requires { ⌜ (longestReply ≤ length (now out)) × Kept n (columnsOf (now «probability_bits») (now counts) (now entries) (now shot)) (slices (now «edge_u») (now «edge_v») (now «edge_weight») (now «edge_obs») []) ⌝ }
+    ensures { λ r. ⌜ Answers (now (line .entry)) n (columnsOf (now («probability_bits» .entry)) (now (counts .entry)) (now (entries .entry)) (now (shot .entry))) (slices (now («edge_u» .entry)) (now («edge_v» .entry)) (now («edge_weight» .entry)) (now («edge_obs» .entry)) []) r (columnsOf (now («probability_bits» .exit)) (now (counts .exit)) (now (entries .exit)) (now (shot .exit))) (slices (now («edge_u» .exit)) (now («edge_v» .exit)) (now («edge_weight» .exit)) (now («edge_obs» .exit)) []) (now (out .entry)) (now (out .exit)) ⌝ }
 {
     let kind = kind_of(line);
     let state = n.state;
-    let read = reader::read_line(
-        line,
-        state,
-        probability_bits,
-        detector_counts,
-        observable_counts,
-        component_counts,
-        component_detectors,
-        component_observables,
-        entries,
-        row,
-        truth,
-    );
+    let read = reader::read_line(line, state, probability_bits, counts, entries, shot);
     match read {
         Line::Refused(r) => refuse(r, out),
         Line::Next(next) => answer_kind(
@@ -312,14 +280,9 @@ pub fn answer_line(
             n,
             next,
             probability_bits,
-            detector_counts,
-            observable_counts,
-            component_counts,
-            component_detectors,
-            component_observables,
+            counts,
             entries,
-            row,
-            truth,
+            shot,
             edge_u,
             edge_v,
             edge_weight,

@@ -20,7 +20,7 @@ ghost use Rattle.standard_input.specs.Ready.{Ready, Stays};
 enum Turn {
     // the place in a block of so many bytes
     On { place: Place, size: usize },
-    // all is written, or reading or writing failed
+    // all is written
     Ended,
 }
 
@@ -37,11 +37,11 @@ fn entries() -> [u32; 8192]
     [0; 8192]
 }
 
-// The front of the output; whether all of it is written.
-fn put(out: &[u8], n: usize) -> bool
+// The front of the output.
+fn put(out: &[u8], n: usize)
     requires { ⌜ n ≤ length (now out) ⌝ }
 {
-    io::write_all(STDOUT_FILENO, &out[0..n])
+    io::write_all(STDOUT_FILENO, &out[0..n]);
 }
 
 // What is left of a block, answered, and the answers written. Long for its parameters, one a line.
@@ -93,9 +93,7 @@ fn answer_block(
             Turn::Ended
         }
         Fed::On(q) => {
-            if !put(out, q.filled) {
-                return Turn::Ended;
-            }
+            put(out, q.filled);
             let numbers = q.numbers;
             Turn::On {
                 place: Place {
@@ -202,9 +200,6 @@ fn take_turn(
     }
     let numbers = p.numbers;
     let got = libc::read(STDIN_FILENO, block);
-    if got < 0 {
-        return Turn::Ended;
-    }
     let n = io::count(got, block);
     if n == 0 {
         answer_end(
@@ -295,8 +290,7 @@ fn serve(
     }
 }
 
-// Standard input answered on standard output, to its end, to the first refusal, or until reading or writing fails: then nothing more is written, so that an output with neither
-// 8f nor ff at its end is known to be cut off. Long for its tables, one a line.
+// Standard input answered on standard output, to its end or to the first refusal. Long for its tables, one a line.
 pub fn answer() {
     let mut block = bytes();
     let mut out = bytes();

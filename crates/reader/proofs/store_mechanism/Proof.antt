@@ -6,6 +6,7 @@ use native.Mathlib.Omega.{arith}
 use lib.ListN.{set}
 use lib.Seq.{sets}
 use Rattle.hex.specs.Hex.{bytesOf}
+use Rattle.columns.specs.Columns.{column}
 use Rattle.frames.proofs.FrameKinds.{long-is, size-is}
 use Rattle.reader.proofs.Reading.{first-long, second-long, listed-is}
 use borrow.Author.Needs.{needs}
@@ -13,10 +14,10 @@ use Rattle.reader.proofs.store_mechanism.Statement.{statement}
 use Rattle.reader.proofs.store_mechanism.Tie as tie
 
 byte-at-requires : tie.Need-byte-at-requires
-byte-at-requires c κs = omega (arith, (long-is (bytesOf (c .before .before .before .before .before .before .args .line .now)) 9 (c .before .before .before .before .before .before .pre .0)))
+byte-at-requires c κs = omega (arith, (long-is (bytesOf (c .before .before .before .args .line .now)) 9 (c .before .before .before .pre .0)))
 
 byte-at-requires-2 : tie.Need-byte-at-requires-2
-byte-at-requires-2 c κs = omega (arith, (long-is (bytesOf (c .before .before .before .before .before .before .before .args .line .now)) 9 (c .before .before .before .before .before .before .before .pre .0)))
+byte-at-requires-2 c κs = omega (arith, (long-is (bytesOf (c .before .before .before .before .args .line .now)) 9 (c .before .before .before .before .pre .0)))
 
 cast-size : tie.Need-cast-size
 cast-size c = search needs
@@ -28,7 +29,7 @@ add-size : tie.Need-add-size
 add-size c = search needs
 
 u64-at-requires : tie.Need-u64-at-requires
-u64-at-requires c κs = omega (arith, (long-is (bytesOf (c .before .before .before .before .before .before .before .before .args .line .now)) 9 (c .before .before .before .before .before .before .before .before .pre .0)))
+u64-at-requires c κs = omega (arith, (long-is (bytesOf (c .before .before .before .before .before .args .line .now)) 9 (c .before .before .before .before .before .pre .0)))
 
 mul-probability-bits : tie.Need-mul-probability-bits
 mul-probability-bits c = search needs
@@ -36,17 +37,17 @@ mul-probability-bits c = search needs
 slice-write-probability-bits : tie.Need-slice-write-probability-bits
 slice-write-probability-bits c = search needs
 
-slice-write-detector-counts : tie.Need-slice-write-detector-counts
-slice-write-detector-counts c = search needs
+set-count-requires : tie.Need-set-count-requires
+set-count-requires c κs = (c .before .before .before .before .before .before .before .pre .3, c .before .before .before .before .before .before .before .pre .2, omega arith)
 
-slice-write-observable-counts : tie.Need-slice-write-observable-counts
-slice-write-observable-counts c = search needs
+set-count-requires-2 : tie.Need-set-count-requires-2
+set-count-requires-2 c κs = (c .before .before .set-count .ensures .1 .rows, omega (arith, c .before .before .before .before .before .before .before .before .before .before .pre .2, c .before .before .set-count .ensures .1 .long), omega arith)
 
-slice-write-component-counts : tie.Need-slice-write-component-counts
-slice-write-component-counts c = search needs
+set-count-requires-3 : tie.Need-set-count-requires-3
+set-count-requires-3 c κs = (c .before .before .set-count2 .ensures .1 .rows, omega (arith, c .before .before .before .before .before .before .before .before .before .before .before .before .before .pre .2, c .before .before .before .before .before .set-count .ensures .1 .long, c .before .before .set-count2 .ensures .1 .long), omega arith)
 
 read-u16s-requires : tie.Need-read-u16s-requires
-read-u16s-requires c κs = (omega (arith, (long-is (bytesOf (c .before .before .before .before .before .before .before .before .before .before .args .line .now)) 9 (c .before .before .before .before .before .before .before .before .before .before .pre .0)), c .before .before .before .byte-at .ensures, c .before .before .byte-at2 .ensures), omega (arith, size-is (bytesOf (c .before .before .before .before .before .before .before .before .before .before .args .line .now)) 9, c .before .before .before .byte-at .ensures, c .before .before .byte-at2 .ensures, c .before .before .before .before .before .before .before .before .before .before .pre .5))
+read-u16s-requires c κs = (omega (arith, (long-is (bytesOf (c .before .before .before .before .before .before .before .before .before .before .before .before .before .before .before .before .args .line .now)) 9 (c .before .before .before .before .before .before .before .before .before .before .before .before .before .before .before .before .pre .0)), c .before .before .before .before .before .before .before .before .before .before .before .before .byte-at .ensures, c .before .before .before .before .before .before .before .before .before .before .before .byte-at2 .ensures), omega (arith, size-is (bytesOf (c .before .before .before .before .before .before .before .before .before .before .before .before .before .before .before .before .args .line .now)) 9, c .before .before .before .before .before .before .before .before .before .before .before .before .byte-at .ensures, c .before .before .before .before .before .before .before .before .before .before .before .byte-at2 .ensures, c .before .before .before .before .before .before .before .before .before .before .before .before .before .before .before .before .pre .4))
 
 same-length : tie.Need-same-length
 same-length c = search needs
@@ -57,20 +58,16 @@ same-length-2 c = search needs
 same-length-3 : tie.Need-same-length-3
 same-length-3 c = search needs
 
-same-length-4 : tie.Need-same-length-4
-same-length-4 c = search needs
-
-same-length-5 : tie.Need-same-length-5
-same-length-5 c = search needs
-
 returns : tie.Need-returns
 returns c = (
-  ap (λ (v : ℕ). set (c .before .before .before .before .before .before .before .before .before .before .before .before .before .args .probability-bits .now) (c .before .before .before .before .before .before .before .before .before .before .before .before .before .args .n .mechanisms) v) (c .before .before .before .before .u64-at .ensures),
-  ap (λ (v : ℕ). set (c .before .before .before .before .before .before .before .before .before .before .before .before .before .args .detector-counts .now) (c .before .before .before .before .before .before .before .before .before .before .before .before .before .args .n .mechanisms) v) (c .before .before .before .before .before .before .byte-at .ensures ∙ sym (first-long (bytesOf (c .before .before .before .before .before .before .before .before .before .before .before .before .before .args .line .now)) 9)),
-  ap (λ (v : ℕ). set (c .before .before .before .before .before .before .before .before .before .before .before .before .before .args .observable-counts .now) (c .before .before .before .before .before .before .before .before .before .before .before .before .before .args .n .mechanisms) v) (c .before .before .before .before .before .byte-at2 .ensures ∙ sym (second-long (bytesOf (c .before .before .before .before .before .before .before .before .before .before .before .before .before .args .line .now)) 9)),
-  refl,
-  c .before .before .read-u16s .ensures ∙ ap (λ (v : List ℕ). sets (c .before .before .before .before .before .before .before .before .before .before .before .before .before .args .entries .now) (c .before .before .before .before .before .before .before .before .before .before .before .before .before .args .n .entries) v)
-      (listed-is (bytesOf (c .before .before .before .before .before .before .before .before .before .before .before .before .before .args .line .now)) 9 (c .before .before .before .before .before .before .byte-at .result + c .before .before .before .before .before .byte-at2 .result) (omega (arith, c .before .before .before .before .before .before .byte-at .ensures, c .before .before .before .before .before .byte-at2 .ensures))),
+  ap (λ (v : ℕ). set (c .before .before .before .before .before .before .before .before .before .before .before .before .before .before .before .before .before .before .before .args .probability-bits .now) (c .before .before .before .before .before .before .before .before .before .before .before .before .before .before .before .before .before .before .before .args .n .mechanisms) v) (c .before .before .before .before .before .before .before .before .before .before .before .before .before .u64-at .ensures),
+  c .before .before .before .before .before .set-count3 .ensures .1 .rest 0 refl ∙ c .before .before .before .before .before .before .before .before .set-count2 .ensures .1 .rest 0 refl ∙ c .before .before .before .before .before .before .before .before .before .before .before .set-count .ensures .0 ∙ ap (λ (v : ℕ). set (column 0 0 (c .before .before .before .before .before .before .before .before .before .before .before .before .before .before .before .before .before .before .before .args .counts .now)) (c .before .before .before .before .before .before .before .before .before .before .before .before .before .before .before .before .before .before .before .args .n .mechanisms) v) (c .before .before .before .before .before .before .before .before .before .before .before .before .before .before .before .byte-at .ensures ∙ sym (first-long (bytesOf (c .before .before .before .before .before .before .before .before .before .before .before .before .before .before .before .before .before .before .before .args .line .now)) 9)),
+  c .before .before .before .before .before .set-count3 .ensures .1 .rest 1 refl ∙ c .before .before .before .before .before .before .before .before .set-count2 .ensures .0 ∙ ap (λ (k : List ℕ). set k (c .before .before .before .before .before .before .before .before .before .before .before .before .before .before .before .before .before .before .before .args .n .mechanisms) (c .before .before .before .before .before .before .before .before .before .before .before .before .before .before .byte-at2 .result)) (c .before .before .before .before .before .before .before .before .before .before .before .set-count .ensures .1 .rest 1 refl) ∙ ap (λ (v : ℕ). set (column 0 1 (c .before .before .before .before .before .before .before .before .before .before .before .before .before .before .before .before .before .before .before .args .counts .now)) (c .before .before .before .before .before .before .before .before .before .before .before .before .before .before .before .before .before .before .before .args .n .mechanisms) v) (c .before .before .before .before .before .before .before .before .before .before .before .before .before .before .byte-at2 .ensures ∙ sym (second-long (bytesOf (c .before .before .before .before .before .before .before .before .before .before .before .before .before .before .before .before .before .before .before .args .line .now)) 9)),
+  c .before .before .before .before .before .set-count3 .ensures .0 ∙ ap (λ (k : List ℕ). set k (c .before .before .before .before .before .before .before .before .before .before .before .before .before .before .before .before .before .before .before .args .n .mechanisms) 0) (c .before .before .before .before .before .before .before .before .set-count2 .ensures .1 .rest 2 refl ∙ c .before .before .before .before .before .before .before .before .before .before .before .set-count .ensures .1 .rest 2 refl),
+  c .before .before .before .before .before .set-count3 .ensures .1 .rest 3 refl ∙ c .before .before .before .before .before .before .before .before .set-count2 .ensures .1 .rest 3 refl ∙ c .before .before .before .before .before .before .before .before .before .before .before .set-count .ensures .1 .rest 3 refl,
+  c .before .before .before .before .before .set-count3 .ensures .1 .rest 4 refl ∙ c .before .before .before .before .before .before .before .before .set-count2 .ensures .1 .rest 4 refl ∙ c .before .before .before .before .before .before .before .before .before .before .before .set-count .ensures .1 .rest 4 refl,
+  c .before .before .read-u16s .ensures ∙ ap (λ (v : List ℕ). sets (c .before .before .before .before .before .before .before .before .before .before .before .before .before .before .before .before .before .before .before .args .entries .now) (c .before .before .before .before .before .before .before .before .before .before .before .before .before .before .before .before .before .before .before .args .n .entries) v)
+      (listed-is (bytesOf (c .before .before .before .before .before .before .before .before .before .before .before .before .before .before .before .before .before .before .before .args .line .now)) 9 (c .before .before .before .before .before .before .before .before .before .before .before .before .before .before .before .byte-at .result + c .before .before .before .before .before .before .before .before .before .before .before .before .before .before .byte-at2 .result) (omega (arith, c .before .before .before .before .before .before .before .before .before .before .before .before .before .before .before .byte-at .ensures, c .before .before .before .before .before .before .before .before .before .before .before .before .before .before .byte-at2 .ensures))),
 )
 
 pub store-mechanism-spec : {M : Type 1} → statement M
@@ -85,13 +82,11 @@ store-mechanism-spec =
     u64-at-requires
     mul-probability-bits
     slice-write-probability-bits
-    slice-write-detector-counts
-    slice-write-observable-counts
-    slice-write-component-counts
+    set-count-requires
+    set-count-requires-2
+    set-count-requires-3
     read-u16s-requires
     same-length
     same-length-2
     same-length-3
-    same-length-4
-    same-length-5
     returns)
