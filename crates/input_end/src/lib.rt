@@ -6,7 +6,7 @@ ghost use mathlib.Core.List.{[]};
 ghost use Prim.Native.Nat.{_+_, _-_, _≤_};
 ghost use lib.ListN.{length, take};
 ghost use Rattle.edges.specs.Tables.{slices};
-ghost use Rattle.reader.specs.Columns.{columns};
+ghost use Rattle.reader.specs.Columns.{columnsOf};
 ghost use Rattle.session.specs.Kept.{Kept};
 ghost use mathlib.Core.Bool.{true};
 ghost use Rattle.frames.specs.LineLaws.{unended};
@@ -18,22 +18,17 @@ pub fn finish(
     used: usize,
     line: &[u8],
     probability_bits: &mut [u64],
-    detector_counts: &mut [u8],
-    observable_counts: &mut [u8],
-    component_counts: &mut [u8],
-    component_detectors: &mut [u8],
-    component_observables: &mut [u8],
+    counts: &mut [[u8; 5]],
     entries: &mut [u32],
-    row: &mut [u64],
-    truth: &mut [u64],
+    shot: &mut [u64],
     edge_u: &mut [u32],
     edge_v: &mut [u32],
     edge_weight: &mut [f64],
     edge_obs: &mut [u64],
     out: &mut [u8],
 ) -> usize
-    requires { ⌜ (1101 ≤ length (now out)) × (used ≤ length (now line)) × (unended (take used (now line)) ≡ true) × Kept numbers (columns (now «probability_bits») (now «detector_counts») (now «observable_counts») (now «component_counts») (now «component_detectors») (now «component_observables») (now entries) (now row) (now truth)) (slices (now «edge_u») (now «edge_v») (now «edge_weight») (now «edge_obs») []) ⌝ }
-    ensures { λ r. ⌜ Finishes numbers (columns (now («probability_bits» .entry)) (now («detector_counts» .entry)) (now («observable_counts» .entry)) (now («component_counts» .entry)) (now («component_detectors» .entry)) (now («component_observables» .entry)) (now (entries .entry)) (now (row .entry)) (now (truth .entry))) (slices (now («edge_u» .entry)) (now («edge_v» .entry)) (now («edge_weight» .entry)) (now («edge_obs» .entry)) []) (take used (now (line .entry))) r (columns (now («probability_bits» .exit)) (now («detector_counts» .exit)) (now («observable_counts» .exit)) (now («component_counts» .exit)) (now («component_detectors» .exit)) (now («component_observables» .exit)) (now (entries .exit)) (now (row .exit)) (now (truth .exit))) (slices (now («edge_u» .exit)) (now («edge_v» .exit)) (now («edge_weight» .exit)) (now («edge_obs» .exit)) []) (now (out .entry)) (now (out .exit)) ⌝ }
+    requires { ⌜ (1101 ≤ length (now out)) × (used ≤ length (now line)) × (unended (take used (now line)) ≡ true) × Kept numbers (columnsOf (now «probability_bits») (now counts) (now entries) (now shot)) (slices (now «edge_u») (now «edge_v») (now «edge_weight») (now «edge_obs») []) ⌝ }
+    ensures { λ r. ⌜ Finishes numbers (columnsOf (now («probability_bits» .entry)) (now (counts .entry)) (now (entries .entry)) (now (shot .entry))) (slices (now («edge_u» .entry)) (now («edge_v» .entry)) (now («edge_weight» .entry)) (now («edge_obs» .entry)) []) (take used (now (line .entry))) r (columnsOf (now («probability_bits» .exit)) (now (counts .exit)) (now (entries .exit)) (now (shot .exit))) (slices (now («edge_u» .exit)) (now («edge_v» .exit)) (now («edge_weight» .exit)) (now («edge_obs» .exit)) []) (now (out .entry)) (now (out .exit)) ⌝ }
 {
     if used == 0 {
         return session::write_end(numbers, out);
@@ -43,14 +38,9 @@ pub fn finish(
         &line[0..used],
         numbers,
         probability_bits,
-        detector_counts,
-        observable_counts,
-        component_counts,
-        component_detectors,
-        component_observables,
+        counts,
         entries,
-        row,
-        truth,
+        shot,
         edge_u,
         edge_v,
         edge_weight,

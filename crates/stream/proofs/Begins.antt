@@ -1,12 +1,15 @@
 -- Before the first byte: what the tables hold, and that tables as a program makes them are long enough.
 use Prim.Native.Nat.{ℕ}
 use native.Mathlib.Omega.{arith}
-use mathlib.Core.Path.{_≡_, refl}
-use lib.ListN.{length}
+use mathlib.Core.Path.{_≡_, refl, _∙_}
+use mathlib.Core.List.{List}
+use lib.ListN.{length, take, drop, length-take, length-drop}
+use Rattle.columns.specs.Columns.{column}
+use Rattle.columns.proofs.Columns.{column-length}
 use Rattle.edges.specs.Tables.{Slices, flat}
 use Rattle.frames.specs.Input.{start}
 use Rattle.frames.specs.declared.Stage.the-variants.{Nothing, AfterRow}
-use Rattle.reader.specs.Columns.{Columns}
+use Rattle.reader.specs.Columns.{Columns, columnsOf}
 use Rattle.reader.proofs.Laws.{laws}
 use Rattle.session.specs.Output.{begin}
 use Rattle.session.specs.Kept.{Sizes, Keeps}
@@ -27,26 +30,24 @@ begin-keeps c g =
       failures = omega arith;
     }
 
-pub record Made (c : Columns) (g : Slices) : Type 0 where
-  pub bits : length (c .bits) ≡ 1024
-  pub detector-counts : length (c .detector-counts) ≡ 1024
-  pub observable-counts : length (c .observable-counts) ≡ 1024
-  pub component-counts : length (c .component-counts) ≡ 1024
-  pub component-detectors : length (c .component-detectors) ≡ 1024
-  pub component-observables : length (c .component-observables) ≡ 1024
-  pub entries : length (c .entries) ≡ 8192
-  pub row : length (c .row) ≡ 4
-  pub truth : length (c .truth) ≡ 2
+-- four tables and those of the graph, as a program makes them
+pub record Made (bs : List ℕ) (rows : List (List ℕ)) (es ws : List ℕ) (g : Slices) : Type 0 where
+  pub bits : length bs ≡ 1024
+  pub counts : length rows ≡ 1024
+  pub entries : length es ≡ 8192
+  pub shot : length ws ≡ 6
   pub u : length (g .edge-u) ≡ 1024
   pub v : length (g .edge-v) ≡ 1024
   pub weight : length (g .edge-weight) ≡ 1024
   pub obs : length (g .edge-obs) ≡ 2048
 
-pub sizes-made : (c : Columns) (g : Slices) → Made c g → Sizes c g
-sizes-made c g m = record {
-  room = rw (m .bits, m .detector-counts, m .observable-counts, m .component-counts, m .component-detectors, m .component-observables, m .entries, m .row, m .truth) refl;
-  sized = record { bits = omega (arith, m .bits); component-detectors = omega (arith, m .component-detectors); component-observables = omega (arith, m .component-observables); entries = omega (arith, m .entries) };
-  wide = record { ends = omega (arith, m .u); others = omega (arith, m .v); weights = omega (arith, m .weight); rows = omega (arith, m .obs) };
-  few = omega (arith, m .u);
-  rows = omega (arith, m .obs);
-}
+pub sizes-made : (bs : List ℕ) (rows : List (List ℕ)) (es ws : List ℕ) (g : Slices) → Made bs rows es ws g → Sizes (columnsOf bs rows es ws) g
+sizes-made bs rows es ws g m =
+    let long : (k : ℕ) → length (column 0 k rows) ≡ 1024 = λ k. column-length 0 k rows ∙ m .counts in
+    record {
+      room = rw (m .bits, long 0, long 1, long 2, long 3, long 4, m .entries, length-take 4 ws, length-drop 4 ws, m .shot) refl;
+      sized = record { bits = omega (arith, m .bits); component-detectors = omega (arith, long 3); component-observables = omega (arith, long 4); entries = omega (arith, m .entries) };
+      wide = record { ends = omega (arith, m .u); others = omega (arith, m .v); weights = omega (arith, m .weight); rows = omega (arith, m .obs) };
+      few = omega (arith, m .u);
+      rows = omega (arith, m .obs);
+    }

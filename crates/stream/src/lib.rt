@@ -8,11 +8,10 @@ ghost use Prim.Native.Nat.{_+_, _-_, _<_, _≤_};
 ghost use lib.ListN.{length, take};
 ghost use Rattle.codes.specs.declared.Refusal.the-variants.{Frame};
 ghost use Rattle.edges.specs.Tables.{slices};
-ghost use Rattle.reader.specs.Columns.{columns};
+ghost use Rattle.reader.specs.Columns.{columnsOf};
 ghost use Rattle.replies.specs.Last.{refusalText};
-ghost use Rattle.session.specs.Kept.{Kept};
 ghost use Rattle.stream.specs.declared.Fed.the-variants as fed;
-ghost use Rattle.stream.specs.Fed.{startPlace, between, LineEnd, Appended, Whole, Standing, Feeds, Further, Presses};
+ghost use Rattle.stream.specs.Fed.{startPlace, between, LineEnd, Appended, Standing, Feeds, Further, Presses};
 
 // Where reading and writing stand.
 pub struct Place {
@@ -86,82 +85,23 @@ fn refuse_long(out: &mut [u8], filled: usize) -> Fed
     Fed::Ended(filled + written)
 }
 
-// A whole line answered. Long for its parameters, one a line.
-fn answer_whole(
-    p: Place,
-    line: &[u8],
-    long: usize,
-    next: usize,
-    probability_bits: &mut [u64],
-    detector_counts: &mut [u8],
-    observable_counts: &mut [u8],
-    component_counts: &mut [u8],
-    component_detectors: &mut [u8],
-    component_observables: &mut [u8],
-    entries: &mut [u32],
-    row: &mut [u64],
-    truth: &mut [u64],
-    edge_u: &mut [u32],
-    edge_v: &mut [u32],
-    edge_weight: &mut [f64],
-    edge_obs: &mut [u64],
-    out: &mut [u8],
-) -> Fed
-    requires { ⌜ (p .filled + 1066 ≤ length (now out)) × (long ≤ length (now line)) × Kept (p .numbers) (columns (now «probability_bits») (now «detector_counts») (now «observable_counts») (now «component_counts») (now «component_detectors») (now «component_observables») (now entries) (now row) (now truth)) (slices (now «edge_u») (now «edge_v») (now «edge_weight») (now «edge_obs») []) ⌝ }
-    ensures { λ r. ⌜ Whole p (take long (now (line .entry))) next (columns (now («probability_bits» .entry)) (now («detector_counts» .entry)) (now («observable_counts» .entry)) (now («component_counts» .entry)) (now («component_detectors» .entry)) (now («component_observables» .entry)) (now (entries .entry)) (now (row .entry)) (now (truth .entry))) (slices (now («edge_u» .entry)) (now («edge_v» .entry)) (now («edge_weight» .entry)) (now («edge_obs» .entry)) []) (now (out .entry)) r (columns (now («probability_bits» .exit)) (now («detector_counts» .exit)) (now («observable_counts» .exit)) (now («component_counts» .exit)) (now («component_detectors» .exit)) (now («component_observables» .exit)) (now (entries .exit)) (now (row .exit)) (now (truth .exit))) (slices (now («edge_u» .exit)) (now («edge_v» .exit)) (now («edge_weight» .exit)) (now («edge_obs» .exit)) []) (now (out .exit)) ⌝ }
-{
-    let filled = p.filled;
-    let told = session::answer_line(
-        &line[0..long],
-        p.numbers,
-        probability_bits,
-        detector_counts,
-        observable_counts,
-        component_counts,
-        component_detectors,
-        component_observables,
-        entries,
-        row,
-        truth,
-        edge_u,
-        edge_v,
-        edge_weight,
-        edge_obs,
-        &mut out[filled..],
-    );
-    match told {
-        Told::Ended { written } => Fed::Ended(filled + written),
-        Told::On { numbers, written } => Fed::On(Place {
-            numbers: numbers,
-            used: 0,
-            taken: next,
-            filled: filled + written,
-        }),
-    }
-}
-
-// A line, or what there is of it. Long for its parameters, one a line.
+// A line answered, or what there is of it gathered. Long for its parameters, one a line.
 fn feed_line(
     block: &[u8],
     p: Place,
     line: &mut [u8],
     probability_bits: &mut [u64],
-    detector_counts: &mut [u8],
-    observable_counts: &mut [u8],
-    component_counts: &mut [u8],
-    component_detectors: &mut [u8],
-    component_observables: &mut [u8],
+    counts: &mut [[u8; 5]],
     entries: &mut [u32],
-    row: &mut [u64],
-    truth: &mut [u64],
+    shot: &mut [u64],
     edge_u: &mut [u32],
     edge_v: &mut [u32],
     edge_weight: &mut [f64],
     edge_obs: &mut [u64],
     out: &mut [u8],
 ) -> Fed
-    requires { ⌜ (p .taken < length (now block)) × (p .filled + 1066 ≤ length (now out)) × Standing p (columns (now «probability_bits») (now «detector_counts») (now «observable_counts») (now «component_counts») (now «component_detectors») (now «component_observables») (now entries) (now row) (now truth)) (slices (now «edge_u») (now «edge_v») (now «edge_weight») (now «edge_obs») []) (now block) (now line) (now out) ⌝ }
-    ensures { λ r. ⌜ Feeds p (columns (now («probability_bits» .entry)) (now («detector_counts» .entry)) (now («observable_counts» .entry)) (now («component_counts» .entry)) (now («component_detectors» .entry)) (now («component_observables» .entry)) (now (entries .entry)) (now (row .entry)) (now (truth .entry))) (slices (now («edge_u» .entry)) (now («edge_v» .entry)) (now («edge_weight» .entry)) (now («edge_obs» .entry)) []) (now (block .entry)) (now (line .entry)) (now (out .entry)) r (columns (now («probability_bits» .exit)) (now («detector_counts» .exit)) (now («observable_counts» .exit)) (now («component_counts» .exit)) (now («component_detectors» .exit)) (now («component_observables» .exit)) (now (entries .exit)) (now (row .exit)) (now (truth .exit))) (slices (now («edge_u» .exit)) (now («edge_v» .exit)) (now («edge_weight» .exit)) (now («edge_obs» .exit)) []) (now (line .exit)) (now (out .exit)) × Further p r ⌝ }
+    requires { ⌜ (p .taken < length (now block)) × (p .filled + 1066 ≤ length (now out)) × Standing p (columnsOf (now «probability_bits») (now counts) (now entries) (now shot)) (slices (now «edge_u») (now «edge_v») (now «edge_weight») (now «edge_obs») []) (now block) (now line) (now out) ⌝ }
+    ensures { λ r. ⌜ Feeds p (columnsOf (now («probability_bits» .entry)) (now (counts .entry)) (now (entries .entry)) (now (shot .entry))) (slices (now («edge_u» .entry)) (now («edge_v» .entry)) (now («edge_weight» .entry)) (now («edge_obs» .entry)) []) (now (block .entry)) (now (line .entry)) (now (out .entry)) r (columnsOf (now («probability_bits» .exit)) (now (counts .exit)) (now (entries .exit)) (now (shot .exit))) (slices (now («edge_u» .exit)) (now («edge_v» .exit)) (now («edge_weight» .exit)) (now («edge_obs» .exit)) []) (now (line .exit)) (now (out .exit)) × Further p r ⌝ }
 {
     let from = p.taken;
     let used = p.used;
@@ -182,26 +122,29 @@ fn feed_line(
             filled: filled,
         });
     }
-    answer_whole(
-        p,
-        line,
-        long,
-        end + 1,
+    let next = end + 1;
+    let told = session::answer_line(
+        &line[0..long],
+        p.numbers,
         probability_bits,
-        detector_counts,
-        observable_counts,
-        component_counts,
-        component_detectors,
-        component_observables,
+        counts,
         entries,
-        row,
-        truth,
+        shot,
         edge_u,
         edge_v,
         edge_weight,
         edge_obs,
-        out,
-    )
+        &mut out[filled..],
+    );
+    match told {
+        Told::Ended { written } => Fed::Ended(filled + written),
+        Told::On { numbers, written } => Fed::On(Place {
+            numbers: numbers,
+            used: 0,
+            taken: next,
+            filled: filled + written,
+        }),
+    }
 }
 
 // Lines until the block is taken, the output has no room for one more reply, or it is ended. Long for its parameters, one a line.
@@ -210,22 +153,17 @@ pub fn feed(
     from: Place,
     line: &mut [u8],
     probability_bits: &mut [u64],
-    detector_counts: &mut [u8],
-    observable_counts: &mut [u8],
-    component_counts: &mut [u8],
-    component_detectors: &mut [u8],
-    component_observables: &mut [u8],
+    counts: &mut [[u8; 5]],
     entries: &mut [u32],
-    row: &mut [u64],
-    truth: &mut [u64],
+    shot: &mut [u64],
     edge_u: &mut [u32],
     edge_v: &mut [u32],
     edge_weight: &mut [f64],
     edge_obs: &mut [u64],
     out: &mut [u8],
 ) -> Fed
-    requires { ⌜ Standing from (columns (now «probability_bits») (now «detector_counts») (now «observable_counts») (now «component_counts») (now «component_detectors») (now «component_observables») (now entries) (now row) (now truth)) (slices (now «edge_u») (now «edge_v») (now «edge_weight») (now «edge_obs») []) (now block) (now line) (now out) ⌝ }
-    ensures { λ r. ⌜ Feeds from (columns (now («probability_bits» .entry)) (now («detector_counts» .entry)) (now («observable_counts» .entry)) (now («component_counts» .entry)) (now («component_detectors» .entry)) (now («component_observables» .entry)) (now (entries .entry)) (now (row .entry)) (now (truth .entry))) (slices (now («edge_u» .entry)) (now («edge_v» .entry)) (now («edge_weight» .entry)) (now («edge_obs» .entry)) []) (now (block .entry)) (now (line .entry)) (now (out .entry)) r (columns (now («probability_bits» .exit)) (now («detector_counts» .exit)) (now («observable_counts» .exit)) (now («component_counts» .exit)) (now («component_detectors» .exit)) (now («component_observables» .exit)) (now (entries .exit)) (now (row .exit)) (now (truth .exit))) (slices (now («edge_u» .exit)) (now («edge_v» .exit)) (now («edge_weight» .exit)) (now («edge_obs» .exit)) []) (now (line .exit)) (now (out .exit)) × Presses from r (now (block .entry)) (length (now (out .entry))) ⌝ }
+    requires { ⌜ Standing from (columnsOf (now «probability_bits») (now counts) (now entries) (now shot)) (slices (now «edge_u») (now «edge_v») (now «edge_weight») (now «edge_obs») []) (now block) (now line) (now out) ⌝ }
+    ensures { λ r. ⌜ Feeds from (columnsOf (now («probability_bits» .entry)) (now (counts .entry)) (now (entries .entry)) (now (shot .entry))) (slices (now («edge_u» .entry)) (now («edge_v» .entry)) (now («edge_weight» .entry)) (now («edge_obs» .entry)) []) (now (block .entry)) (now (line .entry)) (now (out .entry)) r (columnsOf (now («probability_bits» .exit)) (now (counts .exit)) (now (entries .exit)) (now (shot .exit))) (slices (now («edge_u» .exit)) (now («edge_v» .exit)) (now («edge_weight» .exit)) (now («edge_obs» .exit)) []) (now (line .exit)) (now (out .exit)) × Presses from r (now (block .entry)) (length (now (out .entry))) ⌝ }
 {
     let mut p = from;
     while p.taken < block.len() {
@@ -238,14 +176,9 @@ pub fn feed(
             p,
             line,
             probability_bits,
-            detector_counts,
-            observable_counts,
-            component_counts,
-            component_detectors,
-            component_observables,
+            counts,
             entries,
-            row,
-            truth,
+            shot,
             edge_u,
             edge_v,
             edge_weight,
