@@ -21,7 +21,8 @@ use Rattle.input_end.specs.Finish.{Finishes}
 use Rattle.stream.proofs.Begins.{begin-keeps}
 use Rattle.stream.proofs.Blocks.{appended-long}
 use Rattle.stream.specs.Long.{Long}
-use Rattle.standard_input.specs.Ready.{Ready}
+use Rattle.standard_input.specs.Ready.{Ready, GoesOn}
+use Rattle.standard_input.specs.declared.Got.the-variants as got
 
 -- ---- before the first block
 

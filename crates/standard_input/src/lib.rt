@@ -2,26 +2,24 @@
 // and it is called with nothing lent, so that a program asks nothing of it.
 use libc::STDIN_FILENO;
 use libc::STDOUT_FILENO;
-use session::Numbers;
 use stream::Fed;
 use stream::Place;
 ghost use mathlib.Core.Path.{_≡_};
-ghost use mathlib.Core.Bool.{true};
 ghost use mathlib.Core.List.{[]};
 ghost use Prim.Native.Nat.{_≤_};
-ghost use lib.ListN.{length, take};
+ghost use lib.ListN.{length};
 ghost use Rattle.edges.specs.Tables.{slices};
-ghost use Rattle.frames.specs.LineLaws.{unended};
-ghost use Rattle.reader.specs.Columns.{columns};
-ghost use Rattle.session.specs.Kept.{Kept};
+ghost use Rattle.reader.specs.Columns.{columnsOf};
 ghost use Rattle.stream.specs.Long.{Long};
-ghost use Rattle.standard_input.specs.Ready.{Ready, Stays};
+ghost use Rattle.standard_input.specs.Ready.{GoesOn};
 
-enum Turn {
-    // the place in a block of so many bytes
-    On { place: Place, size: usize },
-    // all is written
-    Ended,
+enum Got {
+    // a block of so many bytes, and the place in it
+    Block { place: Place, size: usize },
+    // the end of the input
+    End,
+    // a read that failed
+    Failed,
 }
 
 // The bytes of a block, and of the output.
@@ -37,193 +35,33 @@ fn entries() -> [u32; 8192]
     [0; 8192]
 }
 
-// The front of the output.
-fn put(out: &[u8], n: usize)
+// The front of the output; whether all of it is written.
+fn put(out: &[u8], n: usize) -> bool
     requires { ⌜ n ≤ length (now out) ⌝ }
 {
-    io::write_all(STDOUT_FILENO, &out[0..n]);
+    io::write_all(STDOUT_FILENO, &out[0..n])
 }
 
-// What is left of a block, answered, and the answers written. Long for its parameters, one a line.
-fn answer_block(
-    p: Place,
-    size: usize,
-    block: &[u8],
-    line: &mut [u8],
-    probability_bits: &mut [u64],
-    detector_counts: &mut [u8],
-    observable_counts: &mut [u8],
-    component_counts: &mut [u8],
-    component_detectors: &mut [u8],
-    component_observables: &mut [u8],
-    entries: &mut [u32],
-    row: &mut [u64],
-    truth: &mut [u64],
-    edge_u: &mut [u32],
-    edge_v: &mut [u32],
-    edge_weight: &mut [f64],
-    edge_obs: &mut [u64],
-    out: &mut [u8],
-) -> Turn
-    requires { ⌜ Ready p size (columns (now «probability_bits») (now «detector_counts») (now «observable_counts») (now «component_counts») (now «component_detectors») (now «component_observables») (now entries) (now row) (now truth)) (slices (now «edge_u») (now «edge_v») (now «edge_weight») (now «edge_obs») []) (now block) (now line) (now out) ⌝ }
-    ensures { λ r. ⌜ Stays r (columns (now («probability_bits» .exit)) (now («detector_counts» .exit)) (now («observable_counts» .exit)) (now («component_counts» .exit)) (now («component_detectors» .exit)) (now («component_observables» .exit)) (now (entries .exit)) (now (row .exit)) (now (truth .exit))) (slices (now («edge_u» .exit)) (now («edge_v» .exit)) (now («edge_weight» .exit)) (now («edge_obs» .exit)) []) (now (block .entry)) (now (line .exit)) (now (out .exit)) ⌝ }
-{
-    let fed = stream::feed(
-        &block[0..size],
-        p,
-        line,
-        probability_bits,
-        detector_counts,
-        observable_counts,
-        component_counts,
-        component_detectors,
-        component_observables,
-        entries,
-        row,
-        truth,
-        edge_u,
-        edge_v,
-        edge_weight,
-        edge_obs,
-        out,
-    );
-    match fed {
-        Fed::Ended(filled) => {
-            put(out, filled);
-            Turn::Ended
-        }
-        Fed::On(q) => {
-            put(out, q.filled);
-            let numbers = q.numbers;
-            Turn::On {
-                place: Place {
-                    numbers: numbers,
-                    used: q.used,
-                    taken: q.taken,
-                    filled: 0,
-                },
-                size: size,
-            }
-        }
-    }
-}
-
-// The end of the input. Long for its parameters, one a line.
-fn answer_end(
-    numbers: Numbers,
-    used: usize,
-    line: &[u8],
-    probability_bits: &mut [u64],
-    detector_counts: &mut [u8],
-    observable_counts: &mut [u8],
-    component_counts: &mut [u8],
-    component_detectors: &mut [u8],
-    component_observables: &mut [u8],
-    entries: &mut [u32],
-    row: &mut [u64],
-    truth: &mut [u64],
-    edge_u: &mut [u32],
-    edge_v: &mut [u32],
-    edge_weight: &mut [f64],
-    edge_obs: &mut [u64],
-    out: &mut [u8],
-)
-    requires { ⌜ (1101 ≤ length (now out)) × (used ≤ length (now line)) × (unended (take used (now line)) ≡ true) × Kept numbers (columns (now «probability_bits») (now «detector_counts») (now «observable_counts») (now «component_counts») (now «component_detectors») (now «component_observables») (now entries) (now row) (now truth)) (slices (now «edge_u») (now «edge_v») (now «edge_weight») (now «edge_obs») []) ⌝ }
-{
-    let n = input_end::finish(
-        numbers,
-        used,
-        line,
-        probability_bits,
-        detector_counts,
-        observable_counts,
-        component_counts,
-        component_detectors,
-        component_observables,
-        entries,
-        row,
-        truth,
-        edge_u,
-        edge_v,
-        edge_weight,
-        edge_obs,
-        out,
-    );
-    put(out, n);
-}
-
-// One turn: a block is read where the last one is taken. Long for its parameters, one a line.
-fn take_turn(
-    p: Place,
-    size: usize,
-    block: &mut [u8],
-    line: &mut [u8],
-    probability_bits: &mut [u64],
-    detector_counts: &mut [u8],
-    observable_counts: &mut [u8],
-    component_counts: &mut [u8],
-    component_detectors: &mut [u8],
-    component_observables: &mut [u8],
-    entries: &mut [u32],
-    row: &mut [u64],
-    truth: &mut [u64],
-    edge_u: &mut [u32],
-    edge_v: &mut [u32],
-    edge_weight: &mut [f64],
-    edge_obs: &mut [u64],
-    out: &mut [u8],
-) -> Turn
-    requires { ⌜ Ready p size (columns (now «probability_bits») (now «detector_counts») (now «observable_counts») (now «component_counts») (now «component_detectors») (now «component_observables») (now entries) (now row) (now truth)) (slices (now «edge_u») (now «edge_v») (now «edge_weight») (now «edge_obs») []) (now block) (now line) (now out) ⌝ }
-    ensures { λ r. ⌜ Stays r (columns (now («probability_bits» .exit)) (now («detector_counts» .exit)) (now («observable_counts» .exit)) (now («component_counts» .exit)) (now («component_detectors» .exit)) (now («component_observables» .exit)) (now (entries .exit)) (now (row .exit)) (now (truth .exit))) (slices (now («edge_u» .exit)) (now («edge_v» .exit)) (now («edge_weight» .exit)) (now («edge_obs» .exit)) []) (now (block .exit)) (now (line .exit)) (now (out .exit)) ⌝ }
+// The block, as far as it is not taken yet, or the next one.
+fn next_block(p: Place, size: usize, block: &mut [u8]) -> Got
+    ensures { λ r. ⌜ GoesOn p size (now (block .entry)) r (now (block .exit)) ⌝ }
 {
     if p.taken < size {
-        return answer_block(
-            p,
-            size,
-            block,
-            line,
-            probability_bits,
-            detector_counts,
-            observable_counts,
-            component_counts,
-            component_detectors,
-            component_observables,
-            entries,
-            row,
-            truth,
-            edge_u,
-            edge_v,
-            edge_weight,
-            edge_obs,
-            out,
-        );
+        return Got::Block {
+            place: p,
+            size: size,
+        };
     }
-    let numbers = p.numbers;
     let got = libc::read(STDIN_FILENO, block);
+    if got < 0 {
+        return Got::Failed;
+    }
     let n = io::count(got, block);
     if n == 0 {
-        answer_end(
-            numbers,
-            p.used,
-            line,
-            probability_bits,
-            detector_counts,
-            observable_counts,
-            component_counts,
-            component_detectors,
-            component_observables,
-            entries,
-            row,
-            truth,
-            edge_u,
-            edge_v,
-            edge_weight,
-            edge_obs,
-            out,
-        );
-        return Turn::Ended;
+        return Got::End;
     }
-    Turn::On {
+    let numbers = p.numbers;
+    Got::Block {
         place: Place {
             numbers: numbers,
             used: p.used,
@@ -234,76 +72,105 @@ fn take_turn(
     }
 }
 
-// Turn after turn. They are counted down from more than can ever be taken, since nothing says that an input ends. Long for its parameters, one a line.
+// The place once the output is written.
+fn emptied(p: Place) -> Place
+    ensures { λ r. ⌜ r ≡ record { numbers = p .numbers; used = p .used; taken = p .taken; filled = 0 } ⌝ }
+{
+    let numbers = p.numbers;
+    Place {
+        numbers: numbers,
+        used: p.used,
+        taken: p.taken,
+        filled: 0,
+    }
+}
+
+// Block after block, each answered and the answers written, then the end of the input. Turns are counted down from more than can ever be taken, since nothing says that an input
+// ends. Long for its parameters, one a line.
 fn serve(
     block: &mut [u8],
     line: &mut [u8],
     probability_bits: &mut [u64],
-    detector_counts: &mut [u8],
-    observable_counts: &mut [u8],
-    component_counts: &mut [u8],
-    component_detectors: &mut [u8],
-    component_observables: &mut [u8],
+    counts: &mut [[u8; 5]],
     entries: &mut [u32],
-    row: &mut [u64],
-    truth: &mut [u64],
+    shot: &mut [u64],
     edge_u: &mut [u32],
     edge_v: &mut [u32],
     edge_weight: &mut [f64],
     edge_obs: &mut [u64],
     out: &mut [u8],
 )
-    requires { ⌜ Long (columns (now «probability_bits») (now «detector_counts») (now «observable_counts») (now «component_counts») (now «component_detectors») (now «component_observables») (now entries) (now row) (now truth)) (slices (now «edge_u») (now «edge_v») (now «edge_weight») (now «edge_obs») []) (now line) (now out) ⌝ }
+    requires { ⌜ Long (columnsOf (now «probability_bits») (now counts) (now entries) (now shot)) (slices (now «edge_u») (now «edge_v») (now «edge_weight») (now «edge_obs») []) (now line) (now out) ⌝ }
 {
     let mut place = stream::start();
     let mut size = 0;
     let mut turns = 18446744073709551615u64;
     while 0 < turns {
         turns -= 1;
-        let next = take_turn(
-            place,
-            size,
-            block,
-            line,
-            probability_bits,
-            detector_counts,
-            observable_counts,
-            component_counts,
-            component_detectors,
-            component_observables,
-            entries,
-            row,
-            truth,
-            edge_u,
-            edge_v,
-            edge_weight,
-            edge_obs,
-            out,
-        );
-        match next {
-            Turn::Ended => return,
-            Turn::On { place: p, size: n } => {
-                place = p;
-                size = n;
+        let got = next_block(place, size, block);
+        match got {
+            Got::Failed => return,
+            Got::End => {
+                let n = input_end::finish(
+                    place.numbers,
+                    place.used,
+                    line,
+                    probability_bits,
+                    counts,
+                    entries,
+                    shot,
+                    edge_u,
+                    edge_v,
+                    edge_weight,
+                    edge_obs,
+                    out,
+                );
+                put(out, n);
+                return;
+            }
+            Got::Block { place: p, size: n } => {
+                let fed = stream::feed(
+                    &block[0..n],
+                    p,
+                    line,
+                    probability_bits,
+                    counts,
+                    entries,
+                    shot,
+                    edge_u,
+                    edge_v,
+                    edge_weight,
+                    edge_obs,
+                    out,
+                );
+                match fed {
+                    Fed::Ended(filled) => {
+                        put(out, filled);
+                        return;
+                    }
+                    Fed::On(q) => {
+                        if !put(out, q.filled) {
+                            return;
+                        }
+                        place = emptied(q);
+                        size = n;
+                    }
+                }
             }
         }
     }
 }
 
-// Standard input answered on standard output, to its end or to the first refusal. Long for its tables, one a line.
+// Standard input answered on standard output, to its end, to the first refusal, or until reading or writing fails: then nothing more is written, so that an output with neither
+// 8f nor ff at its end is known to be cut off. Long for its tables, one a line.
 pub fn answer() {
     let mut block = bytes();
     let mut out = bytes();
     let mut line = [0u8; 2062];
     let mut probability_bits = [0u64; 1024];
-    let mut detector_counts = [0u8; 1024];
-    let mut observable_counts = [0u8; 1024];
-    let mut component_counts = [0u8; 1024];
-    let mut component_detectors = [0u8; 1024];
-    let mut component_observables = [0u8; 1024];
+    let mut counts = [[0u8; 5]; 1024];
     let mut entries = crate::entries();
-    let mut row = [0u64; 4];
-    let mut truth = [0u64; 2];
+    let mut shot = [0u64; 6];
     let mut edge_u = [0u32; 1024];
     let mut edge_v = [0u32; 1024];
     let mut edge_weight = [0.0f64; 1024];
@@ -312,14 +179,9 @@ pub fn answer() {
         &mut block,
         &mut line,
         &mut probability_bits,
-        &mut detector_counts,
-        &mut observable_counts,
-        &mut component_counts,
-        &mut component_detectors,
-        &mut component_observables,
+        &mut counts,
         &mut entries,
-        &mut row,
-        &mut truth,
+        &mut shot,
         &mut edge_u,
         &mut edge_v,
         &mut edge_weight,

@@ -14,8 +14,6 @@ use Rattle.stream.specs.Text.{Comes}
 use Rattle.stream.specs.Fed.{between, At}
 use Rattle.whole_input.specs.declared.Output.{Output}
 use Rattle.whole_input.specs.declared.Output.the-variants as output
-use Rattle.whole_input.specs.declared.Came.{Came}
-use Rattle.whole_input.specs.declared.Came.the-variants as came
 
 -- ---- the call
 
@@ -45,8 +43,3 @@ pub record Filled (input : List ℕ) (p : Place) (at : ℕ) (c : Columns) (g : S
   pub count : at ≡ length text
   pub fits : at ≤ length was
   pub output : out ≡ sets was 0 text
-
--- it is taken whole, or the answer is known
-abbrev pub Reaches : List ℕ → Came → Columns → Slices → List ℕ → List ℕ → List ℕ → List ℕ → Type 0
-Reaches input (came.All p at) c g line reply was out = Filled input p at c g line reply was out × (length input ≤ p .taken)
-Reaches input (came.Done r) c g line reply was out = Answered input r was out

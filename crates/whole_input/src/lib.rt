@@ -6,8 +6,8 @@ ghost use mathlib.Core.List.{[]};
 ghost use Prim.Native.Nat.{_≤_};
 ghost use lib.ListN.{length};
 ghost use Rattle.edges.specs.Tables.{slices};
-ghost use Rattle.reader.specs.Columns.{columns};
-ghost use Rattle.whole_input.specs.Whole.{Answered, Put, Reaches};
+ghost use Rattle.reader.specs.Columns.{columnsOf};
+ghost use Rattle.whole_input.specs.Whole.{Answered, Put};
 ghost use Rattle.stream.specs.Long.{Long};
 
 pub enum Output {
@@ -15,13 +15,6 @@ pub enum Output {
     Whole(usize),
     // the output is shorter than that
     NoRoom,
-}
-
-// How far the lines of an input lead.
-enum Came {
-    // all are taken: where the last one stands, and how many bytes of the output are filled
-    All { place: Place, at: usize },
-    Done(Output),
 }
 
 fn entries() -> [u32; 8192]
@@ -44,28 +37,23 @@ fn put(text: &[u8], at: usize, out: &mut [u8]) -> Output
     Output::Whole(at + text.len())
 }
 
-// Line after line. The answers to some of them are gathered, then put behind the others. Long for its parameters, one a line.
-fn feed_all(
+// Line after line, then the end. The answers to some lines are gathered, then put behind the others. Long for its parameters, one a line.
+fn answer_over(
     input: &[u8],
     line: &mut [u8],
     probability_bits: &mut [u64],
-    detector_counts: &mut [u8],
-    observable_counts: &mut [u8],
-    component_counts: &mut [u8],
-    component_detectors: &mut [u8],
-    component_observables: &mut [u8],
+    counts: &mut [[u8; 5]],
     entries: &mut [u32],
-    row: &mut [u64],
-    truth: &mut [u64],
+    shot: &mut [u64],
     edge_u: &mut [u32],
     edge_v: &mut [u32],
     edge_weight: &mut [f64],
     edge_obs: &mut [u64],
     reply: &mut [u8],
     out: &mut [u8],
-) -> Came
-    requires { ⌜ Long (columns (now «probability_bits») (now «detector_counts») (now «observable_counts») (now «component_counts») (now «component_detectors») (now «component_observables») (now entries) (now row) (now truth)) (slices (now «edge_u») (now «edge_v») (now «edge_weight») (now «edge_obs») []) (now line) (now reply) ⌝ }
-    ensures { λ r. ⌜ Reaches (now (input .entry)) r (columns (now («probability_bits» .exit)) (now («detector_counts» .exit)) (now («observable_counts» .exit)) (now («component_counts» .exit)) (now («component_detectors» .exit)) (now («component_observables» .exit)) (now (entries .exit)) (now (row .exit)) (now (truth .exit))) (slices (now («edge_u» .exit)) (now («edge_v» .exit)) (now («edge_weight» .exit)) (now («edge_obs» .exit)) []) (now (line .exit)) (now (reply .exit)) (now (out .entry)) (now (out .exit)) ⌝ }
+) -> Output
+    requires { ⌜ Long (columnsOf (now «probability_bits») (now counts) (now entries) (now shot)) (slices (now «edge_u») (now «edge_v») (now «edge_weight») (now «edge_obs») []) (now line) (now reply) ⌝ }
+    ensures { λ r. ⌜ Answered (now (input .entry)) r (now (out .entry)) (now (out .exit)) ⌝ }
 {
     let mut p = stream::start();
     let mut at = 0;
@@ -75,14 +63,9 @@ fn feed_all(
             p,
             line,
             probability_bits,
-            detector_counts,
-            observable_counts,
-            component_counts,
-            component_detectors,
-            component_observables,
+            counts,
             entries,
-            row,
-            truth,
+            shot,
             edge_u,
             edge_v,
             edge_weight,
@@ -90,12 +73,12 @@ fn feed_all(
             reply,
         );
         match fed {
-            Fed::Ended(n) => return Came::Done(put(&reply[0..n], at, out)),
+            Fed::Ended(n) => return put(&reply[0..n], at, out),
             Fed::On(q) => {
                 let n = q.filled;
                 let told = put(&reply[0..n], at, out);
                 match told {
-                    Output::NoRoom => return Came::Done(Output::NoRoom),
+                    Output::NoRoom => return Output::NoRoom,
                     Output::Whole(next) => {
                         let numbers = q.numbers;
                         at = next;
@@ -110,76 +93,21 @@ fn feed_all(
             }
         }
     }
-    Came::All { place: p, at: at }
-}
-
-// The lines, then the end. Long for its parameters, one a line.
-fn answer_over(
-    input: &[u8],
-    line: &mut [u8],
-    probability_bits: &mut [u64],
-    detector_counts: &mut [u8],
-    observable_counts: &mut [u8],
-    component_counts: &mut [u8],
-    component_detectors: &mut [u8],
-    component_observables: &mut [u8],
-    entries: &mut [u32],
-    row: &mut [u64],
-    truth: &mut [u64],
-    edge_u: &mut [u32],
-    edge_v: &mut [u32],
-    edge_weight: &mut [f64],
-    edge_obs: &mut [u64],
-    reply: &mut [u8],
-    out: &mut [u8],
-) -> Output
-    requires { ⌜ Long (columns (now «probability_bits») (now «detector_counts») (now «observable_counts») (now «component_counts») (now «component_detectors») (now «component_observables») (now entries) (now row) (now truth)) (slices (now «edge_u») (now «edge_v») (now «edge_weight») (now «edge_obs») []) (now line) (now reply) ⌝ }
-    ensures { λ r. ⌜ Answered (now (input .entry)) r (now (out .entry)) (now (out .exit)) ⌝ }
-{
-    let came = feed_all(
-        input,
+    let n = input_end::finish(
+        p.numbers,
+        p.used,
         line,
         probability_bits,
-        detector_counts,
-        observable_counts,
-        component_counts,
-        component_detectors,
-        component_observables,
+        counts,
         entries,
-        row,
-        truth,
+        shot,
         edge_u,
         edge_v,
         edge_weight,
         edge_obs,
         reply,
-        out,
     );
-    match came {
-        Came::Done(r) => r,
-        Came::All { place, at } => {
-            let n = input_end::finish(
-                place.numbers,
-                place.used,
-                line,
-                probability_bits,
-                detector_counts,
-                observable_counts,
-                component_counts,
-                component_detectors,
-                component_observables,
-                entries,
-                row,
-                truth,
-                edge_u,
-                edge_v,
-                edge_weight,
-                edge_obs,
-                reply,
-            );
-            put(&reply[0..n], at, out)
-        }
-    }
+    put(&reply[0..n], at, out)
 }
 
 // What an input is answered with, at the front of the output, as far as it fits. Long for its tables, one a line.
@@ -188,14 +116,9 @@ pub fn answer_input(input: &[u8], out: &mut [u8]) -> Output
 {
     let mut line = [0u8; 2062];
     let mut probability_bits = [0u64; 1024];
-    let mut detector_counts = [0u8; 1024];
-    let mut observable_counts = [0u8; 1024];
-    let mut component_counts = [0u8; 1024];
-    let mut component_detectors = [0u8; 1024];
-    let mut component_observables = [0u8; 1024];
+    let mut counts = [[0u8; 5]; 1024];
     let mut entries = crate::entries();
-    let mut row = [0u64; 4];
-    let mut truth = [0u64; 2];
+    let mut shot = [0u64; 6];
     let mut edge_u = [0u32; 1024];
     let mut edge_v = [0u32; 1024];
     let mut edge_weight = [0.0f64; 1024];
@@ -205,14 +128,9 @@ pub fn answer_input(input: &[u8], out: &mut [u8]) -> Output
         input,
         &mut line,
         &mut probability_bits,
-        &mut detector_counts,
-        &mut observable_counts,
-        &mut component_counts,
-        &mut component_detectors,
-        &mut component_observables,
+        &mut counts,
         &mut entries,
-        &mut row,
-        &mut truth,
+        &mut shot,
         &mut edge_u,
         &mut edge_v,
         &mut edge_weight,

@@ -1,11 +1,7 @@
 -- `standard_input::answer`: the tables are long enough.
-use Prim.Native.Nat.{ℕ, _+_, _-_}
-use mathlib.Core.Path.{_≡_, refl, sym, _∙_}
-use mathlib.Core.List.{[]}
+use mathlib.Core.Path.{refl, sym}
 use native.Mathlib.Omega.{arith}
-use lib.ListN.{length, take}
-use Rattle.edges.specs.Tables.{slices}
-use Rattle.reader.specs.Columns.{columns}
+use lib.ListN.{replicate}
 use Rattle.stream.proofs.Begins.{sizes-made}
 use borrow.Author.Needs.{needs}
 use Rattle.standard_input.proofs.answer.Statement.{statement}
@@ -53,23 +49,8 @@ slice-aggregate-serve-10 c = search needs
 slice-aggregate-serve-11 : tie.Need-slice-aggregate-serve-11
 slice-aggregate-serve-11 c = search needs
 
-slice-aggregate-serve-12 : tie.Need-slice-aggregate-serve-12
-slice-aggregate-serve-12 c = search needs
-
-slice-aggregate-serve-13 : tie.Need-slice-aggregate-serve-13
-slice-aggregate-serve-13 c = search needs
-
-slice-aggregate-serve-14 : tie.Need-slice-aggregate-serve-14
-slice-aggregate-serve-14 c = search needs
-
-slice-aggregate-serve-15 : tie.Need-slice-aggregate-serve-15
-slice-aggregate-serve-15 c = search needs
-
-slice-aggregate-serve-16 : tie.Need-slice-aggregate-serve-16
-slice-aggregate-serve-16 c = search needs
-
 serve-requires : tie.Need-serve-requires
-serve-requires c κs = record { sizes = sizes-made _ _ (record { bits = refl; detector-counts = refl; observable-counts = refl; component-counts = refl; component-detectors = refl; component-observables = refl; row = refl; truth = refl; entries = sym (c .before .before .before .before .before .before .before .before .before .before .before .before .before .before .before .before .entries .ensures); u = refl; v = refl; weight = refl; obs = refl }); buffer = refl; room = omega (arith, c .before .before .before .before .before .before .before .before .before .before .before .before .before .before .before .before .before .bytes2 .ensures) }
+serve-requires c κs = record { sizes = sizes-made _ _ _ (replicate 6 0) _ (record { bits = refl; counts = refl; entries = sym (c .before .before .before .before .before .before .before .before .before .before .before .entries .ensures); shot = refl; u = refl; v = refl; weight = refl; obs = refl }); buffer = refl; room = omega (arith, c .before .before .before .before .before .before .before .before .before .before .before .before .bytes2 .ensures) }
 
 returns : tie.Need-returns
 returns c = search needs
@@ -92,10 +73,5 @@ answer-spec =
     slice-aggregate-serve-9
     slice-aggregate-serve-10
     slice-aggregate-serve-11
-    slice-aggregate-serve-12
-    slice-aggregate-serve-13
-    slice-aggregate-serve-14
-    slice-aggregate-serve-15
-    slice-aggregate-serve-16
     serve-requires
     returns)

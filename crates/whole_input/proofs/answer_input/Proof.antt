@@ -1,6 +1,7 @@
 -- `whole_input::answer_input`: the tables are long enough.
 use mathlib.Core.Path.{refl, sym}
 use native.Mathlib.Omega.{arith}
+use lib.ListN.{replicate}
 use Rattle.stream.proofs.Begins.{sizes-made}
 use borrow.Author.Needs.{needs}
 use Rattle.whole_input.proofs.answer_input.Statement.{statement}
@@ -39,23 +40,8 @@ slice-aggregate-answer-over-9 c = search needs
 slice-aggregate-answer-over-10 : tie.Need-slice-aggregate-answer-over-10
 slice-aggregate-answer-over-10 c = search needs
 
-slice-aggregate-answer-over-11 : tie.Need-slice-aggregate-answer-over-11
-slice-aggregate-answer-over-11 c = search needs
-
-slice-aggregate-answer-over-12 : tie.Need-slice-aggregate-answer-over-12
-slice-aggregate-answer-over-12 c = search needs
-
-slice-aggregate-answer-over-13 : tie.Need-slice-aggregate-answer-over-13
-slice-aggregate-answer-over-13 c = search needs
-
-slice-aggregate-answer-over-14 : tie.Need-slice-aggregate-answer-over-14
-slice-aggregate-answer-over-14 c = search needs
-
-slice-aggregate-answer-over-15 : tie.Need-slice-aggregate-answer-over-15
-slice-aggregate-answer-over-15 c = search needs
-
 answer-over-requires : tie.Need-answer-over-requires
-answer-over-requires c κs = record { sizes = sizes-made _ _ (record { bits = refl; detector-counts = refl; observable-counts = refl; component-counts = refl; component-detectors = refl; component-observables = refl; row = refl; truth = refl; entries = sym (c .before .before .before .before .before .before .before .before .before .before .before .before .before .before .before .before .entries .ensures); u = refl; v = refl; weight = refl; obs = refl }); buffer = refl; room = omega arith }
+answer-over-requires c κs = record { sizes = sizes-made _ _ _ (replicate 6 0) _ (record { bits = refl; counts = refl; entries = sym (c .before .before .before .before .before .before .before .before .before .before .before .entries .ensures); shot = refl; u = refl; v = refl; weight = refl; obs = refl }); buffer = refl; room = omega arith }
 
 same-length : tie.Need-same-length
 same-length c = search needs
@@ -78,11 +64,6 @@ answer-input-spec =
     slice-aggregate-answer-over-8
     slice-aggregate-answer-over-9
     slice-aggregate-answer-over-10
-    slice-aggregate-answer-over-11
-    slice-aggregate-answer-over-12
-    slice-aggregate-answer-over-13
-    slice-aggregate-answer-over-14
-    slice-aggregate-answer-over-15
     answer-over-requires
     same-length
     returns)
