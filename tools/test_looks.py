@@ -1,13 +1,19 @@
 #!/usr/bin/env python3
-"""Tests of edits.py and deps.py, which look at the tree and check nothing."""
+"""Tests of edits.py and deps.py, which look at the tree and check nothing, and of what `where` makes of the times of files."""
 import sys
 import tempfile
 import unittest
+from importlib.machinery import SourceFileLoader
+from importlib.util import module_from_spec, spec_from_loader
 from pathlib import Path
 
 sys.dont_write_bytecode = True
 import deps
 import edits
+
+# a command has no `.py`, so it is not found by its name
+where = module_from_spec(spec_from_loader("where", SourceFileLoader("where", str(Path(__file__).with_name("where")))))
+where.__loader__.exec_module(where)
 
 
 class Tree(unittest.TestCase):
@@ -67,6 +73,18 @@ class Deps(Tree):
     def test_names_of_proofs(self):
         self.put("crates/low/proofs/Laws.antt", "-- Rattle.high.specs is only told of\nuse Rattle.high.specs.M.{a}\nuse Rattle.low.specs.N.{b}\n")
         self.assertEqual(deps.named("low", [*deps.listed()]), ["high"])
+
+
+class Where(unittest.TestCase):
+    def test_names_of_modules(self):
+        self.assertEqual(where.module("Rattle.dem.proofs.check_list.Lts.decls.oantt"), "check_list.Lts")
+        self.assertEqual(where.module("Rattle.dem.specs.Model.oantt"), "Model")
+        self.assertEqual(where.module("Rattle.dem.oantt"), "the crate's interface")
+
+    def test_a_module_has_the_time_since_the_file_before(self):
+        second = 10**9
+        stamps = [(7 * second, "Rattle.a.proofs.f.Lts.decls.oantt"), (2 * second, "Rattle.a.specs.M.oantt"), (8 * second, "Rattle.a.proofs.f.Lts.oantt")]
+        self.assertEqual(where.spent(stamps), [("f.Lts", 6.0)])
 
 
 if __name__ == "__main__":
