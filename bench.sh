@@ -39,13 +39,13 @@ count() {
 prove() {
   local all left line
   all=$(count bench)
-  say "once only, \`bench\` is proved before it runs: $all crates, some minutes on two processors"
+  say "once only, \`bench\` is proved before it runs: $all crates, some 18 minutes on two slow processors"
   RT_JOBS=${RT_JOBS:-4} rt check bench </dev/null | {
     left=$all
     while IFS= read -r line; do
       case $line in
         "rt: "*" NOT PROVED"* | "rt: FAILED"*) echo "$line" >&2 ;;
-        "rt: "*" proved"*)
+        "rt: "*" proved ("*)
           left=$((left - 1))
           say "$left of $all crates left"
           ;;

@@ -68,6 +68,24 @@ run ./bench.sh --help
 check "--help" "$status" 0
 grep -q '256 detectors, 1,024 mechanisms' "$dir/out" || wrong "--help: what is held is not told"
 
+# where `bench` is not built: a stand-in for `rt` says what `rt` says, and leaves a program
+mkdir "$dir/new" "$dir/path"
+cp bench.sh "$dir/new/"
+printf 'low:\nbench: low io\nother:\n' >"$dir/new/crates.txt"
+cat >"$dir/path/rt" <<'RT'
+#!/bin/sh
+[ "$*" = "check bench" ] || exit 9
+printf 'rt: low proved (1 s)\nrt: bench proved (2 s)\nrt: bench ran, and wrote what it should (0 s)\nrt: ok, 2 crates proved\n'
+mkdir -p target/bin
+printf '#!/bin/sh\necho 8f00000000000000000000000000000000\n' >target/bin/bench
+chmod +x target/bin/bench
+RT
+chmod +x "$dir/path/rt"
+run env PATH="$dir/path:$PATH" "$dir/new/bench.sh" $example.in
+check "a program that is proved first" "$status" 0
+head -n 1 "$dir/err" | grep -q 'once only.* 2 crates' || wrong "the first line does not say that this happens once, and for how many crates"
+[ "$(sed -n 's/^bench.sh: \(.*\) of 2 crates left$/\1/p' "$dir/err" | tr '\n' ' ')" = '1 0 ' ] || wrong "the crates left are counted otherwise"
+
 # a read that fails: a folder, and a pipe that is empty and does not wait
 run ./bench.sh examples
 check "a folder" "$status" 3
