@@ -5,9 +5,9 @@
 //! MODEL-AND-SHOTS has frames 01 to 06 of docs/RULES.md, "Frames": a model, then shots with their true observables; `-`
 //! is standard input. The output is that of program `bench`: for each shot an 85 with the predicted observables and an
 //! 86 with the correction, at the end an 8f with shots, failures and rate. Models may be as large as the library takes,
-//! which is 4,096 detectors and 16,384 mechanisms. Where `bench` writes the line ff, this writes to standard error: the
-//! code, what it names, its sentence, and of a damaged line its number and the reason. The exit status is then 1, else
-//! 0.
+//! which is 4,096 detectors and 16,384 mechanisms; limits are looked at once the model is read. Where `bench` writes
+//! the line ff, this writes to standard error: the code, what it names, its sentence, and of a damaged line its number
+//! and the reason. The exit status is then 1, else 0.
 
 mod common;
 
