@@ -5,7 +5,7 @@ ghost use Rattle.codes.specs.Codes.{code_of, first_of, second_of};
 ghost use Rattle.codes.specs.Limits.{check_counts, check_shots};
 
 // A case for each code, with the values that its row names.
-#[derive(Drop)]
+#[derive(Clone, Copy)]
 pub enum Refusal {
     // 1: a count over its limit, or a decomposed model that finds no place
     Limit,
@@ -36,7 +36,7 @@ pub enum Refusal {
 }
 
 // What a check comes to.
-#[derive(Drop)]
+#[derive(Clone, Copy)]
 pub enum Checked {
     Accepted,
     Refused(Refusal),

@@ -10,7 +10,7 @@ ghost use Rattle.cover.specs.Search.{previous, equal_at, fresh_at, Room, Outcome
 const NOWHERE: u32 = 4294967295;
 
 // The members of a cover stand at the front of the lent list.
-#[derive(Drop)]
+#[derive(Clone, Copy)]
 pub enum Cover {
     Members(usize),
     Nothing,

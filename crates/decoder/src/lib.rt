@@ -14,7 +14,7 @@ use codes::{Checked, Refusal};
 use scratch::Lengths;
 use shot::Shot;
 
-#[derive(Drop)]
+#[derive(Clone, Copy)]
 pub enum Answer {
     // the rounds finished, and the length of the list
     Decoded { rounds: u32, length: usize },

@@ -15,14 +15,14 @@ use splits::Step;
 use suggested::Size;
 
 // What the call comes to: the mechanisms, components and entries of the new model, or the refusal.
-#[derive(Drop)]
+#[derive(Clone, Copy)]
 pub enum Decomposed {
     Into(Counts),
     Refused(Refusal),
 }
 
 // The lengths of the scratch slices.
-#[derive(Drop)]
+#[derive(Clone, Copy)]
 pub struct Scratch {
     pub starts: usize,
     pub before: usize,

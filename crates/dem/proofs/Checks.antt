@@ -16,7 +16,7 @@ use Rattle.codes.specs.Limits.{max_entries}
 use Rattle.dem.specs.declared.Mechanism.{Mechanism}
 use Rattle.dem.specs.declared.Place.{Place}
 use Rattle.dem.specs.Model.{ascending, list_fits, symptom_fits, symptoms_fit, lists_fit, probability_fits, check_mechanism}
-use Rattle.dem.specs.Tables.{components_of, component_entries, firstOf}
+use Rattle.dem.specs.Tables.{components_of, component_entries, first_of}
 use Rattle.dem.specs.Positions.{symptom_at, mechanism_at, Within}
 
 -- ---- an ascending list
@@ -106,7 +106,7 @@ module _ (D O : ℕ) (h : Mechanism) (p : Place) (cds cos es : List ℕ) where
       ≡ (symptom_fits D O (symptom_at h.detectors h.observables (drop p.entry es))
       && (leb h.components max_entries
       && symptoms_fit D O (components_of h.components (drop p.component cds) (drop p.component cos) (drop (p.entry + (h.detectors + h.observables)) es))))
-  unfolding lists_fit mechanism_at firstOf
+  unfolding lists_fit mechanism_at first_of
   lists_parts =
       rw (
         length_components h.components (drop p.component cds) (drop p.component cos) (drop (h.detectors + h.observables) (drop p.entry es)),
@@ -114,7 +114,7 @@ module _ (D O : ℕ) (h : Mechanism) (p : Place) (cds cos es : List ℕ) where
       )
 
   probability_at : (mechanism_at h p cds cos es).probability ≡ h.probability
-  unfolding mechanism_at firstOf
+  unfolding mechanism_at first_of
   probability_at = refl
 
   pub check_parts : (i : ℕ) → check_mechanism D O i (mechanism_at h p cds cos es)

@@ -18,7 +18,7 @@ use Rattle.codes.specs.declared.Checked.{Checked}
 use Rattle.codes.specs.declared.Checked.TheVariants.{Accepted}
 use Rattle.codes.specs.Order.{and_then}
 use Rattle.dem.specs.Model.{ErrorMechanism, check_mechanism, check_model}
-use Rattle.dem.specs.Tables.{Tables, firstOf, first_entries, rest_of, model_of, components_in, entries_in, columns_hold, lists_hold, tables_hold}
+use Rattle.dem.specs.Tables.{Tables, first_of, first_entries, rest_of, model_of, components_in, entries_in, columns_hold, lists_hold, tables_hold}
 use Rattle.dem.specs.Positions.{tables, head_of, tables_at, mechanism_at, place_past, Inside, place_of, tables_from, columns, total}
 use Rattle.dem.specs.Laws.{Reached}
 use Rattle.dem.proofs.Checks.{first_of_lem}
@@ -64,7 +64,7 @@ rest_from (suc i) t = ap rest_of (sym (from_suc i t)) ∙ rest_from i (rest_of t
 pub model_split : (i n : ℕ) (t : Tables) → model_of (i + n) t ≡ model_of i t ++ model_of n (tables_from i t)
 unfolding model_of
 model_split zero n t = ap₂ model_of (zero-add n) (sym (from_zero t))
-model_split (suc i) n t = rw (suc-add i n) (ap {B = List ErrorMechanism} (λ ms. firstOf t ∷ ms) (model_split i n (rest_of t) ∙ ap (λ u. model_of i (rest_of t) ++ model_of n u) (from_suc i t)))
+model_split (suc i) n t = rw (suc-add i n) (ap {B = List ErrorMechanism} (λ ms. first_of t ∷ ms) (model_split i n (rest_of t) ∙ ap (λ u. model_of i (rest_of t) ++ model_of n u) (from_suc i t)))
 
 pub components_split : (i n : ℕ) (t : Tables) → components_in (i + n) t ≡ components_in i t + components_in n (tables_from i t)
 unfolding components_in
@@ -81,8 +81,8 @@ entries_split (suc i) n t =
 -- ---- mechanism i
 
 pub first_from : (i : ℕ) (t : Tables)
-    → firstOf (tables_from i t) ≡ mechanism_at (head_of i t) (place_of i t) t.component_detectors t.component_observables t.entries
-unfolding mechanism_at firstOf
+    → first_of (tables_from i t) ≡ mechanism_at (head_of i t) (place_of i t) t.component_detectors t.component_observables t.entries
+unfolding mechanism_at first_of
 first_from i t =
     rw (first_of_lem i t.probability nan, first_of_lem i t.detector_counts 0, first_of_lem i t.observable_counts 0, first_of_lem i t.component_counts 0)
 

@@ -3,7 +3,7 @@ ghost use Rattle.std.specs.Prelude.{◌≡◌, ◌+◌, ◌^◌, ◌<◌, ◌≤
 ghost use Rattle.dem.specs.Positions.{head_at, place_past, place_of, Summed, columns, Counted};
 
 // The head of a mechanism: its probability and the lengths of its lists.
-#[derive(Drop)]
+#[derive(Clone, Copy)]
 pub struct Mechanism {
     pub probability: f64,
     pub detectors: u8,
@@ -12,7 +12,7 @@ pub struct Mechanism {
 }
 
 // Where a mechanism's components and entries begin.
-#[derive(Drop)]
+#[derive(Clone, Copy)]
 pub struct Place {
     pub component: usize,
     pub entry: usize,

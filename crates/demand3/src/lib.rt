@@ -10,7 +10,7 @@ use decoder::Answer;
 use marking::Marking;
 
 // The marker's answer and its row, which 128 observables fill. By value: each slice lent for writing makes the check longer.
-#[derive(Drop)]
+#[derive(Clone, Copy)]
 pub struct Verdict {
     pub marking: Marking,
     pub row: [u64; 2],

@@ -13,7 +13,7 @@ ghost use Rattle.edges.specs.Chains.{chain_end, last_ends, Chained};
 pub const NONE: u32 = 4294967295;
 
 // What looking for an edge finds.
-#[derive(Drop)]
+#[derive(Clone, Copy)]
 pub enum Found {
     At(usize),
     Nothing,

@@ -8,7 +8,7 @@ ghost use Rattle.failures.specs.Failures.{differs, failures_in, rate_of, shape_o
 
 use codes::{Checked, Refusal};
 
-#[derive(Drop)]
+#[derive(Clone, Copy)]
 pub enum ErrorRate {
     // failures divided by shots
     Rate(f64),

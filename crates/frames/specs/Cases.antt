@@ -2,7 +2,7 @@
 use Rattle.std.specs.Prelude.{ℕ, ◌≡◌, refl, List, [], ◌∷◌, ◌++◌}
 use Rattle.codes.specs.declared.Refusal.TheVariants as refusal
 use Rattle.codes.specs.declared.Checked.TheVariants.{Accepted, Refused}
-use Rattle.hex.specs.Hex.{text_of}
+use Rattle.hex_text.specs.Hex.{text_of}
 use Rattle.frames.specs.declared.Stage.TheVariants.{InModel, BetweenShots}
 use Rattle.frames.specs.Input.{Given, Input, next, refused, start, read_line, meaning_of}
 

@@ -2,7 +2,7 @@
 use Rattle.std.specs.Prelude.{ℕ, ◌+◌, List, Bool, cond, length}
 use Rattle.std.proofs.Math.Option.{Option, none, some}
 use Rattle.codes.specs.declared.Refusal.TheVariants as refusal
-use Rattle.hex.specs.Hex.{is_hex, bytes_of}
+use Rattle.hex_text.specs.Hex.{is_hex, bytes_of}
 use Rattle.dem.specs.Model.{Symptom}
 use Rattle.frames.specs.declared.Stage.TheVariants.{InModel, BetweenShots, AfterRow}
 use Rattle.frames.specs.declared.State.{State}

@@ -1,7 +1,7 @@
 -- The frames of an input: docs/RULES.md, "Frames".
 use Rattle.std.specs.Prelude.{ℕ, ◌+◌, ◌*◌, List, Bool, cond, length, get_or, take, drop, eqb}
 use Rattle.std.proofs.Math.Option.{Option, none, some}
-use Rattle.hex.specs.Hex.{number, numbers}
+use Rattle.hex_text.specs.Hex.{number, numbers}
 use Rattle.bits.specs.Rows.{words}
 use Rattle.dem.specs.Model.{Symptom}
 

@@ -8,7 +8,7 @@ use Rattle.codes.specs.declared.Refusal.TheVariants as refusal
 use Rattle.codes.specs.declared.Checked.{Checked}
 use Rattle.codes.specs.declared.Checked.TheVariants.{Accepted, Refused}
 use Rattle.codes.specs.Limits.{max_observables}
-use Rattle.hex.specs.Hex.{is_hex, bytes_of}
+use Rattle.hex_text.specs.Hex.{is_hex, bytes_of}
 use Rattle.dem.specs.Model.{Symptom, ErrorMechanism}
 use Rattle.dem.specs.Tables.{Tables, tables_of}
 use Rattle.frames.specs.declared.Stage.{Stage}

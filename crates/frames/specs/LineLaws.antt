@@ -2,7 +2,7 @@
 use Rattle.std.specs.Prelude.{ℕ, ◌<◌, ◌≡◌, Bool, true, false, not, ◌&&◌, List, [], ◌∷◌, ◌++◌, length, eqb}
 use Rattle.codes.specs.declared.Refusal.TheVariants.{Frame}
 use Rattle.bits.specs.Rows.{words}
-use Rattle.hex.specs.Hex.{bytes_of}
+use Rattle.hex_text.specs.Hex.{bytes_of}
 use Rattle.frames.specs.declared.Stage.TheVariants.{AfterRow}
 use Rattle.frames.specs.Frames.{kind_of}
 use Rattle.frames.specs.Input.{Input, next, refused, over, read_line, lines_of}

@@ -1,6 +1,6 @@
 // docs/RULES.md, "Frames": what a line says, and the answer to it by the numbers of what was read.
 ghost use Rattle.std.specs.Prelude.{◌≡◌, true, false, cond, ◌+◌, ◌≤◌, length, drop};
-ghost use Rattle.hex.specs.Hex.{bytes_of};
+ghost use Rattle.hex_text.specs.Hex.{bytes_of};
 ghost use Rattle.frames.specs.Frames.{kind_of, symptom_long, symptom_of, frame_of};
 ghost use Rattle.codes.specs.declared.Refusal.TheVariants as refusal;
 ghost use Rattle.frames.specs.declared.Stage.TheVariants.{InModel};
@@ -11,7 +11,7 @@ ghost use Rattle.frames.specs.Counts.{counts_of, size_of, over_counts, capped, f
 use codes::{Checked, Refusal};
 
 // Which kinds of frame may come.
-#[derive(Drop)]
+#[derive(Clone, Copy)]
 pub enum Stage {
     // 01
     Nothing,
@@ -24,7 +24,7 @@ pub enum Stage {
 }
 
 // The numbers of what was read.
-#[derive(Drop)]
+#[derive(Clone, Copy)]
 pub struct State {
     pub stage: Stage,
     pub detectors: usize,
@@ -34,7 +34,7 @@ pub struct State {
     pub entries: usize,
 }
 
-#[derive(Drop)]
+#[derive(Clone, Copy)]
 pub enum Line {
     Next(State),
     Refused(Refusal),
@@ -136,12 +136,12 @@ fn read_header(line: &[u8], n: State) -> Line
     requires { kind_of (bytes_of line.now) ≡ 1 }
     ensures { result ≡ frame_line n (frame_of n.detectors n.observables (bytes_of line.now)) }
 {
-    let count = hex::byte_count(line);
+    let count = hex_text::byte_count(line);
     if count < 5 {
         return wrong();
     }
-    let detectors = hex::u16_at(line, 1) as usize;
-    let observables = hex::u16_at(line, 3) as usize;
+    let detectors = hex_text::u16_at(line, 1) as usize;
+    let observables = hex_text::u16_at(line, 3) as usize;
     judged(
         count == 5,
         State {
@@ -160,7 +160,7 @@ fn symptom_size(line: &[u8], i: usize) -> usize
     requires { (i ≤ 9) × (i + 2 ≤ length (bytes_of line.now)) }
     ensures { (result ≡ size_of (symptom_of (drop i (bytes_of line.now)))) × (result ≤ 510) }
 {
-    hex::byte_at(line, i) as usize + hex::byte_at(line, i + 1) as usize
+    hex_text::byte_at(line, i) as usize + hex_text::byte_at(line, i + 1) as usize
 }
 
 // They end with the line.
@@ -169,7 +169,7 @@ fn symptom_long(line: &[u8], i: usize) -> bool
     ensures { result ≡ symptom_long (drop i (bytes_of line.now)) }
 {
     let size = symptom_size(line, i);
-    let count = hex::byte_count(line);
+    let count = hex_text::byte_count(line);
     count == i + 2 + 2 * size
 }
 
@@ -178,7 +178,7 @@ fn read_mechanism(line: &[u8], n: State) -> Line
     requires { (kind_of (bytes_of line.now) ≡ 2) × (over_counts n ≡ false) }
     ensures { result ≡ frame_line n (frame_of n.detectors n.observables (bytes_of line.now)) }
 {
-    if hex::byte_count(line) < 11 {
+    if hex_text::byte_count(line) < 11 {
         return wrong();
     }
     let size = symptom_size(line, 9);
@@ -203,7 +203,7 @@ fn read_component(line: &[u8], n: State) -> Line
     requires { (kind_of (bytes_of line.now) ≡ 3) × (over_counts n ≡ false) }
     ensures { result ≡ frame_line n (frame_of n.detectors n.observables (bytes_of line.now)) }
 {
-    if hex::byte_count(line) < 3 {
+    if hex_text::byte_count(line) < 3 {
         return wrong();
     }
     let size = symptom_size(line, 1);
@@ -242,7 +242,7 @@ fn read_frame(line: &[u8], kind: u8, n: State) -> Line
     requires { (kind_of (bytes_of line.now) ≡ kind) × (over_counts n ≡ false) }
     ensures { result ≡ frame_line n (frame_of n.detectors n.observables (bytes_of line.now)) }
 {
-    let count = hex::byte_count(line);
+    let count = hex_text::byte_count(line);
     if kind == 1 {
         return read_header(line, n);
     }
@@ -271,13 +271,13 @@ pub fn next_line(line: &[u8], n: State) -> Line
     requires { over_counts n ≡ false }
     ensures { result ≡ line_of n line.now }
 {
-    if !hex::is_hex(line) {
+    if !hex_text::is_hex(line) {
         return wrong();
     }
-    if hex::byte_count(line) == 0 {
+    if hex_text::byte_count(line) == 0 {
         return wrong();
     }
-    let kind = hex::byte_at(line, 0);
+    let kind = hex_text::byte_at(line, 0);
     let stage = n.stage;
     if !in_order(stage, n.mechanisms, kind) {
         return wrong();

@@ -13,7 +13,7 @@ use codes::{Checked, Refusal};
 use dem::{Mechanism, Place};
 
 // How many edges a model has, or why it has none.
-#[derive(Drop)]
+#[derive(Clone, Copy)]
 pub enum Compiled {
     Edges(usize),
     Refused(Refusal),

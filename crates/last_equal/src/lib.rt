@@ -6,7 +6,7 @@ ghost use Rattle.cover.specs.Search.{previous};
 ghost use Rattle.last_equal.specs.Last.{symptom_in, Chained, Linkable, Findable};
 
 // The two lists of a mechanism or a component: where they begin in the entries, and their lengths.
-#[derive(Drop)]
+#[derive(Clone, Copy)]
 pub struct Span {
     pub at: usize,
     pub detectors: u8,

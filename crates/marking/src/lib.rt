@@ -9,7 +9,7 @@ ghost use Rattle.marking.specs.Answer.{marking_of};
 
 use codes::Refusal;
 
-#[derive(Drop)]
+#[derive(Clone, Copy)]
 pub enum Marking {
     // the row written
     Pass,
@@ -19,7 +19,7 @@ pub enum Marking {
 }
 
 // The lowest set bit of a row, if any is set.
-#[derive(Drop)]
+#[derive(Clone, Copy)]
 enum Bit {
     At(u32),
     Nothing,

@@ -7,7 +7,7 @@ ghost use Rattle.packed.specs.Packed.{check_length, check_padding, packed_of};
 use codes::{Checked, Refusal};
 
 // What a batch is taken for.
-#[derive(Drop)]
+#[derive(Clone, Copy)]
 pub enum Packed {
     // so many words a row
     Rows { m_words: usize },

@@ -6,7 +6,7 @@ use Rattle.codes.specs.declared.Refusal.{Refusal}
 use Rattle.codes.specs.declared.Refusal.TheVariants as refusal
 use Rattle.bits.specs.Rows.{words}
 use Rattle.columns.specs.Columns.{column}
-use Rattle.hex.specs.Hex.{bytes_of}
+use Rattle.hex_text.specs.Hex.{bytes_of}
 use Rattle.dem.specs.Model.{Symptom}
 use Rattle.dem.specs.Tables.{written}
 use Rattle.frames.specs.declared.State.{State}

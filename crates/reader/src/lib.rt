@@ -1,7 +1,7 @@
 // docs/RULES.md, "Frames": a line read into tables. It is checked whole before anything is written.
 ghost use Rattle.std.specs.Prelude.{◌≡◌, true, ◌+◌, ◌-◌, ◌<◌, ◌≤◌, min, length, get_or, take, drop, set};
 ghost use Rattle.std.proofs.lemmas.List.Edits.{sets};
-ghost use Rattle.hex.specs.Hex.{bytes_of, number};
+ghost use Rattle.hex_text.specs.Hex.{bytes_of, number};
 ghost use Rattle.frames.specs.Frames.{symptom_long, symptom_of, frame_of};
 ghost use Rattle.frames.specs.Counts.{size_of};
 ghost use Rattle.columns.specs.Columns.{column, Wide};
@@ -45,14 +45,14 @@ fn store_mechanism(
 {
     let m = n.mechanisms;
     let at = n.entries;
-    let d = hex::byte_at(line, 9);
-    let o = hex::byte_at(line, 10);
+    let d = hex_text::byte_at(line, 9);
+    let o = hex_text::byte_at(line, 10);
     let size = d as usize + o as usize;
-    probability_bits[m] = hex::u64_at(line, 1);
+    probability_bits[m] = hex_text::u64_at(line, 1);
     counts::set_count(counts, m, counts::DETECTORS, d);
     counts::set_count(counts, m, counts::OBSERVABLES, o);
     counts::set_count(counts, m, counts::COMPONENTS, 0);
-    hex::read_u16s(line, 11, size, entries, at);
+    hex_text::read_u16s(line, 11, size, entries, at);
 }
 
 // 03: a component of the last mechanism.
@@ -69,14 +69,14 @@ fn store_component(line: &[u8], n: State, counts: &mut [[u8; 5]], entries: &mut 
     let last = n.mechanisms - 1;
     let c = n.components;
     let at = n.entries;
-    let d = hex::byte_at(line, 1);
-    let o = hex::byte_at(line, 2);
+    let d = hex_text::byte_at(line, 1);
+    let o = hex_text::byte_at(line, 2);
     let size = d as usize + o as usize;
     let more = one_more(counts::count(counts, last, counts::COMPONENTS));
     counts::set_count(counts, last, counts::COMPONENTS, more);
     counts::set_count(counts, c, counts::COMPONENT_DETECTORS, d);
     counts::set_count(counts, c, counts::COMPONENT_OBSERVABLES, o);
-    hex::read_u16s(line, 3, size, entries, at);
+    hex_text::read_u16s(line, 3, size, entries, at);
 }
 
 // A line that was answered by numbers: its frame into the tables.
@@ -92,7 +92,7 @@ fn store(
     ensures { columns_of probability_bits.new counts.new entries.new shot.new
         ≡ stored n (frame_of n.detectors n.observables (bytes_of line.now)) (columns_of probability_bits.old counts.old entries.old shot.old) }
 {
-    let kind = hex::byte_at(line, 0);
+    let kind = hex_text::byte_at(line, 0);
     if kind == 2 {
         store_mechanism(line, n, probability_bits, counts, entries);
         return;
@@ -104,12 +104,12 @@ fn store(
     let row = ROW_WORDS;
     if kind == 5 {
         let words = bits::words(n.detectors);
-        hex::read_u64s(line, 1, words, &mut shot[0..row]);
+        hex_text::read_u64s(line, 1, words, &mut shot[0..row]);
         return;
     }
     if kind == 6 {
         let words = bits::words(n.observables);
-        hex::read_u64s(line, 1, words, &mut shot[row..]);
+        hex_text::read_u64s(line, 1, words, &mut shot[row..]);
         return;
     }
 }

@@ -8,7 +8,7 @@ use whole_input::Output;
 // More cases than a list has.
 const MAX_CASES: usize = 100000;
 
-#[derive(Drop)]
+#[derive(Clone, Copy)]
 enum Case {
     Right,
     Wrong,
@@ -16,7 +16,7 @@ enum Case {
     Last,
 }
 
-#[derive(Drop)]
+#[derive(Clone, Copy)]
 struct Tally {
     cases: usize,
     wrong: usize,
@@ -58,11 +58,11 @@ fn take(n: usize, to: &mut [u8]) -> bool {
 fn size_at(head: &[u8], at: usize) -> usize
     requires { at ≤ 4 }
 {
-    if hex::byte_count(head) < at + 4 {
+    if hex_text::byte_count(head) < at + 4 {
         return 0;
     }
-    let high = hex::u16_at(head, at);
-    let low = hex::u16_at(head, at + 2);
+    let high = hex_text::u16_at(head, at);
+    let low = hex_text::u16_at(head, at + 2);
     65536 * (high as usize) + low as usize
 }
 

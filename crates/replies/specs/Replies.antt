@@ -1,6 +1,6 @@
 -- What is written: docs/RULES.md, "Frames".
 use Rattle.std.specs.Prelude.{ℕ, ◌≡◌, refl, List, [], ◌∷◌, ◌++◌, length}
-use Rattle.hex.specs.Hex.{text_of, bytes_in, bytes_each}
+use Rattle.hex_text.specs.Hex.{text_of, bytes_in, bytes_each}
 
 -- "One per line": its text, and a line feed
 unfoldable pub line_of : List ℕ → List ℕ

@@ -17,8 +17,8 @@ pub fn write_row(row: &[u64], out: &mut [u8]) -> usize
         × (out.new ≡ line_of (row_reply row.now) ++ drop (length (line_of (row_reply row.now))) out.old) }
 {
     let end = 2 + 16 * row.len();
-    hex::write_byte(0x85, out, 0);
-    hex::write_u64s(row, out, 2);
+    hex_text::write_byte(0x85, out, 0);
+    hex_text::write_u64s(row, out, 2);
     out[end] = b'\n';
     end + 1
 }
@@ -30,9 +30,9 @@ pub fn write_list(edges: &[u32], out: &mut [u8]) -> usize
         × (out.new ≡ line_of (list_reply edges.now) ++ drop (length (line_of (list_reply edges.now))) out.old) }
 {
     let end = 6 + 4 * edges.len();
-    hex::write_byte(0x86, out, 0);
-    hex::write_number(edges.len() as u64, 2, out, 2);
-    hex::write_u16s(edges, out, 6);
+    hex_text::write_byte(0x86, out, 0);
+    hex_text::write_number(edges.len() as u64, 2, out, 2);
+    hex_text::write_u16s(edges, out, 6);
     out[end] = b'\n';
     end + 1
 }
@@ -43,10 +43,10 @@ fn rate_line(shots: u64, failures: u64, rate: u64, out: &mut [u8]) -> usize
     ensures { (result ≡ length (line_of (rate_reply shots failures rate)))
         × (out.new ≡ line_of (rate_reply shots failures rate) ++ drop (length (line_of (rate_reply shots failures rate))) out.old) }
 {
-    hex::write_byte(0x8f, out, 0);
-    hex::write_number(shots, 4, out, 2);
-    hex::write_number(failures, 4, out, 10);
-    hex::write_number(rate, 8, out, 18);
+    hex_text::write_byte(0x8f, out, 0);
+    hex_text::write_number(shots, 4, out, 2);
+    hex_text::write_number(failures, 4, out, 10);
+    hex_text::write_number(rate, 8, out, 18);
     out[34] = b'\n';
     35
 }
@@ -57,8 +57,8 @@ fn refusal_line(r: Refusal, out: &mut [u8]) -> usize
     ensures { (result ≡ length (line_of (refusal_reply (code_of r))))
         × (out.new ≡ line_of (refusal_reply (code_of r)) ++ drop (length (line_of (refusal_reply (code_of r)))) out.old) }
 {
-    hex::write_byte(0xff, out, 0);
-    hex::write_byte(codes::code(r), out, 2);
+    hex_text::write_byte(0xff, out, 0);
+    hex_text::write_byte(codes::code(r), out, 2);
     out[4] = b'\n';
     5
 }

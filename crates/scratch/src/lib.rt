@@ -5,7 +5,7 @@ ghost use Rattle.scratch.specs.Scratch.{lengths_for, scratch_long};
 ghost use Rattle.scratch.specs.Laws.{each};
 
 #[repr(C)]
-#[derive(Drop)]
+#[derive(Clone, Copy)]
 pub struct Lengths {
     pub adj_offsets: usize,
     pub adj: usize,

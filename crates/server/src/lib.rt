@@ -24,7 +24,7 @@ use scratch::Lengths;
 
 // The counts of a lent graph.
 #[repr(C)]
-#[derive(Drop)]
+#[derive(Clone, Copy)]
 pub struct Size {
     pub detectors: usize,
     pub observables: usize,
@@ -33,7 +33,7 @@ pub struct Size {
 
 // The answer of compiling.
 #[repr(C)]
-#[derive(Drop)]
+#[derive(Clone, Copy)]
 pub struct GraphWords {
     pub code: u32,
     pub first: usize,
@@ -106,7 +106,7 @@ pub extern "C" fn pavrenni_compile(
 
 // The scratch lengths of decomposition.
 #[repr(C)]
-#[derive(Drop)]
+#[derive(Clone, Copy)]
 pub struct DecomposeLengths {
     pub starts: usize,
     pub before: usize,
@@ -122,7 +122,7 @@ pub struct DecomposeLengths {
 
 // The scratch lengths of compiling.
 #[repr(C)]
-#[derive(Drop)]
+#[derive(Clone, Copy)]
 pub struct CompileLengths {
     pub edge_p: usize,
     pub first: usize,
@@ -131,7 +131,7 @@ pub struct CompileLengths {
 
 // The scratch lengths of the marker.
 #[repr(C)]
-#[derive(Drop)]
+#[derive(Clone, Copy)]
 pub struct MarkLengths {
     pub marks: usize,
     pub wrong: usize,
@@ -233,7 +233,7 @@ pub extern "C" fn pavrenni_mark_lengths_for(detectors: usize, edges: usize) -> M
 
 // The answer of the marker: passed is 1 or 0, and where it is 0 the detector is the lowest wrong one.
 #[repr(C)]
-#[derive(Drop)]
+#[derive(Clone, Copy)]
 pub struct MarkWords {
     pub code: u32,
     pub first: usize,
@@ -305,7 +305,7 @@ pub extern "C" fn pavrenni_mark(
 
 // The answer to a shot: the rounds finished and the length of the list. Stuck is code 11 with shot 0 and the detector, and has its rounds too.
 #[repr(C)]
-#[derive(Drop)]
+#[derive(Clone, Copy)]
 pub struct ShotWords {
     pub code: u32,
     pub first: usize,
@@ -344,7 +344,7 @@ fn shot_words(a: Answer) -> ShotWords
 
 // The answer to a batch.
 #[repr(C)]
-#[derive(Drop)]
+#[derive(Clone, Copy)]
 pub struct BatchWords {
     pub code: u32,
     pub first: usize,
@@ -416,7 +416,7 @@ pub extern "C" fn pavrenni_decode_shot(
 
 // The answer of decomposition: the mechanisms, components and entries of the new model.
 #[repr(C)]
-#[derive(Drop)]
+#[derive(Clone, Copy)]
 pub struct ModelWords {
     pub code: u32,
     pub first: usize,
@@ -563,7 +563,7 @@ pub extern "C" fn pavrenni_decode_batch(
 
 // The answer of the rate.
 #[repr(C)]
-#[derive(Drop)]
+#[derive(Clone, Copy)]
 pub struct RateWords {
     pub code: u32,
     pub first: usize,

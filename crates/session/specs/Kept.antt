@@ -1,7 +1,7 @@
 -- What the numbers and the tables of a session stand for, and what the functions promise of them.
 use Rattle.std.specs.Prelude.{ℕ, ◌≤◌, ◌≡◌, true, false, cond, List, pos, eqb, length}
 use Rattle.std.specs.Float.{fin}
-use Rattle.hex.specs.Hex.{bytes_of}
+use Rattle.hex_text.specs.Hex.{bytes_of}
 use Rattle.dem.specs.Tables.{written}
 use Rattle.steps.specs.Graph.{Graph}
 use Rattle.edges.specs.Compile.{Edges, graph_by}

@@ -2,7 +2,7 @@
 use Rattle.std.specs.Prelude.{ℕ, ◌+◌, List, [], ◌∷◌, ◌++◌, Bool, true, false, length, eqb, ltb}
 use Rattle.codes.specs.declared.Refusal.{Refusal}
 use Rattle.codes.specs.declared.Refusal.TheVariants.{Limit}
-use Rattle.hex.specs.Hex.{bytes_of}
+use Rattle.hex_text.specs.Hex.{bytes_of}
 use Rattle.steps.specs.Graph.{Graph}
 use Rattle.edges.specs.Compile.{Edges, into, graph_by}
 use Rattle.edges.specs.Compile as edges

@@ -2,7 +2,7 @@
 ghost use Rattle.std.specs.Prelude.{◌≡◌, [], ◌+◌, ◌*◌, ◌≤◌, ◌<◌, length};
 ghost use Rattle.columns.specs.Columns.{column};
 ghost use Rattle.bits.specs.Rows.{words};
-ghost use Rattle.hex.specs.Hex.{bytes_of};
+ghost use Rattle.hex_text.specs.Hex.{bytes_of};
 ghost use Rattle.dem.specs.Tables.{written};
 ghost use Rattle.edges.specs.Tables.{slices};
 ghost use Rattle.frames.specs.Frames.{kind_of};
@@ -19,7 +19,7 @@ use graph::Compiled;
 use shot_reply::Reply;
 
 // The numbers of a session: of what was read, of the graph from 04 on, of the shots.
-#[derive(Drop)]
+#[derive(Clone, Copy)]
 pub struct Numbers {
     pub state: State,
     pub edges: usize,
@@ -29,7 +29,7 @@ pub struct Numbers {
     pub failures: u32,
 }
 
-#[derive(Drop)]
+#[derive(Clone, Copy)]
 pub enum Told {
     // the numbers after the line, and how many bytes were written
     On { numbers: Numbers, written: usize },
@@ -188,10 +188,10 @@ fn answer_shot(
 fn kind_of(line: &[u8]) -> u8
     ensures { result ≡ kind_of (bytes_of line.now) }
 {
-    if hex::byte_count(line) == 0 {
+    if hex_text::byte_count(line) == 0 {
         return 0;
     }
-    hex::byte_at(line, 0)
+    hex_text::byte_at(line, 0)
 }
 
 // A line that was read, by its kind. Long for its parameters, one a line.

@@ -85,7 +85,7 @@ pub fn end_shot(
 }
 
 // The rounds finished, and the length of the correction list or the detector that Stuck names.
-#[derive(Drop)]
+#[derive(Clone, Copy)]
 pub enum Shot {
     Decoded { rounds: u32, length: usize },
     Stuck { rounds: u32, detector: u32 },

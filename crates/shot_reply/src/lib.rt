@@ -9,7 +9,7 @@ use codes::Refusal;
 use decoder::Answer;
 use packed::Packed;
 
-#[derive(Drop)]
+#[derive(Clone, Copy)]
 pub enum Reply {
     // how many bytes were written, and whether an observable differs from the true one
     Decoded { written: usize, failed: bool },

@@ -12,7 +12,7 @@ use splits::Step;
 use suggested::Size;
 
 // The mechanisms, components and entries of a model.
-#[derive(Drop)]
+#[derive(Clone, Copy)]
 pub struct Counts {
     pub mechanisms: usize,
     pub components: usize,

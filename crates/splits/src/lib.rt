@@ -17,7 +17,7 @@ use last_equal::Span;
 use suggested::{Added, Size};
 
 // What splitting a mechanism comes to.
-#[derive(Drop)]
+#[derive(Clone, Copy)]
 pub enum Step {
     Grown(Size),
     Refused(Refusal),

@@ -9,7 +9,7 @@ ghost use Rattle.standard_input.specs.Ready.{GoesOn};
 use libc::{STDIN_FILENO, STDOUT_FILENO};
 use stream::{Fed, Place};
 
-#[derive(Drop)]
+#[derive(Clone, Copy)]
 enum Got {
     // a block of so many bytes, and the place in it
     Block { place: Place, size: usize },

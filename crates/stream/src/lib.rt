@@ -11,7 +11,7 @@ use codes::Refusal;
 use session::{Numbers, Told};
 
 // Where reading and writing stand.
-#[derive(Drop)]
+#[derive(Clone, Copy)]
 pub struct Place {
     pub numbers: Numbers,
     // of the line buffer, by a line that is not ended yet
@@ -22,7 +22,7 @@ pub struct Place {
     pub filled: usize,
 }
 
-#[derive(Drop)]
+#[derive(Clone, Copy)]
 pub enum Fed {
     // the block is taken up to here, or the output has no room for one more reply
     On(Place),

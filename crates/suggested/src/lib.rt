@@ -11,14 +11,14 @@ use dem::Place;
 use last_equal::Span;
 
 // The mechanisms of a model and the entries that they take; the lent places for both.
-#[derive(Drop)]
+#[derive(Clone, Copy)]
 pub struct Size {
     pub mechanisms: usize,
     pub entries: usize,
 }
 
 // What adding a component comes to.
-#[derive(Drop)]
+#[derive(Clone, Copy)]
 pub enum Added {
     Now(Size),
     Full,

@@ -7,7 +7,7 @@ ghost use Rattle.stream.specs.Long.{Long};
 
 use stream::{Fed, Place};
 
-#[derive(Drop)]
+#[derive(Clone, Copy)]
 pub enum Output {
     // so many bytes, all that the input is answered with
     Whole(usize),

@@ -1,0 +1,20 @@
+-- `hex::digit_of`: by the test.
+use borrow.Author.Tests.{lt-ltb, le-ltb}
+use borrow.Author.Rules.{rules}
+use Rattle.hex_text.proofs.digit_of.Statement.{statement}
+use Rattle.hex_text.proofs.digit_of.Tie as tie
+
+add-result : tie.Need-overflow-add-result
+add-result c = search rules
+
+returns : tie.Need-returns
+returns c = simp (lt-ltb _ _ c.if1.true)
+
+add-result-2 : tie.Need-overflow-add-result-2
+add-result-2 c = search rules
+
+returns-2 : tie.Need-returns-2
+returns-2 c = simp (le-ltb _ _ c.if1.false)
+
+pub digit_of_spec : {M : Type 1} → statement M
+digit_of_spec = tie.close (tie.spec add-result returns add-result-2 returns-2)
