@@ -1,7 +1,7 @@
 -- A correction list has at most one edge for each detector: each edge peeled marks a detector of its own.
 use Prim.Native.Nat.{ℕ, suc, ◌+◌, ◌≤◌, ◌<◌}
 use native.Mathlib.Omega.{arith}
-use mathlib.Core.Path.{◌≡◌, refl, sym, ◌∙◌}
+use mathlib.Core.Path.{◌≡◌, refl, sym, ◌∙◌, subst}
 use mathlib.Core.List.{List, [], ◌∷◌, ◌++◌}
 use mathlib.Core.Bool.{Bool, true, false}
 use mathlib.Core.Logic.{◌⊎◌, inl, inr, ⊎_elim}
@@ -58,7 +58,7 @@ marked g ok sat t z v vl (b ∷ bs) k fresh =
       fewer = omega (arith, falses_set (marks t v bs) b.vertex (rw (r.size, z) (vertex_below g ok sat v bs b k.0)) off);
       only = λ d m. ⊎_elim
           (λ x. ⊎_elim (λ y. inl y) (λ y. inr (within_more g ok sat v bs b d y)) (r.only d x))
-          (λ (x : d ≡ b.vertex). inr (rw x (within_head g ok sat v bs b)))
+          (λ (x : d ≡ b.vertex). inr (subst (λ (d : ℕ). within v (b ∷ bs) d ≡ true) (sym x) (within_head g ok sat v bs b)))
           (set_only (marks t v bs) b.vertex d m);
     }
 

@@ -1,6 +1,6 @@
 -- The branches of a walk as a tree: what each branch says of those before it.
 use Prim.Native.Nat.{ℕ, ◌<◌}
-use mathlib.Core.Path.{◌≡◌, refl, sym, ap, ◌∙◌}
+use mathlib.Core.Path.{◌≡◌, refl, sym, ap, ◌∙◌, subst}
 use mathlib.Core.List.{List, [], ◌∷◌, map}
 use mathlib.Core.Bool.{Bool, true, false, ◌||◌, xor}
 use mathlib.Core.Logic.{◌⊎◌, ⊎_elim}
@@ -121,8 +121,8 @@ module _ (g : Graph) (ok : Ends g) (sat : List Bool) (v : ℕ) where
         solid = t.0.solid;
         pair = t.0.pair;
         inside = ⊎_elim
-            (λ (s : (inner g b.edge ≡ b.parent) × (outer g b.edge ≡ b.vertex)). rw s.0 (within_more bs b b.parent t.0.old))
-            (λ (s : (inner g b.edge ≡ b.vertex) × (outer g b.edge ≡ b.parent)). rw s.0 (within_head bs b))
+            (λ (s : (inner g b.edge ≡ b.parent) × (outer g b.edge ≡ b.vertex)). subst (λ (d : ℕ). within v (b ∷ bs) d ≡ true) (sym s.0) (within_more bs b b.parent t.0.old))
+            (λ (s : (inner g b.edge ≡ b.vertex) × (outer g b.edge ≡ b.parent)). subst (λ (d : ℕ). within v (b ∷ bs) d ≡ true) (sym s.0) (within_head bs b))
             t.0.spans;
       }))
       (λ u. let r = tree_edge bs t.1 e u in record { known = r.known; solid = r.solid; pair = r.pair; inside = within_more bs b (inner g e) r.inside })

@@ -10,7 +10,7 @@ use lib.Dec.{eqb, ltb}
 use borrow.Author.Tests.{ltb-true, eqb-true}
 use Rattle.lists.proofs.Truth.{clash, cond_case}
 use Rattle.codes.specs.declared.Refusal.TheVariants as refusal
-use Rattle.hex.specs.Hex.{is_hex, bytes_of, number, numbers}
+use Rattle.hex_text.specs.Hex.{is_hex, bytes_of, number, numbers}
 use Rattle.bits.specs.Rows.{words}
 use Rattle.dem.specs.Model.{Symptom}
 use Rattle.frames.specs.declared.Stage.{Stage}

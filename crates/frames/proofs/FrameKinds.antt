@@ -11,8 +11,8 @@ use lib.Seq.{get_or-drop}
 use lib.Dec.{eqb, ltb}
 use borrow.Author.Tests.{ltb-false, eqb-true, eq-eqb, ne_eqb}
 use Rattle.lists.proofs.Truth.{case-of, clash, or_left, or_right}
-use Rattle.hex.specs.Hex.{number, numbers}
-use Rattle.hex.proofs.Runs.{numbers_long}
+use Rattle.hex_text.specs.Hex.{number, numbers}
+use Rattle.hex_text.proofs.Runs.{numbers_long}
 use Rattle.bits.specs.Rows.{words}
 use Rattle.frames.specs.declared.Stage.{Stage}
 use Rattle.frames.specs.declared.Stage.TheVariants.{Nothing, InModel, BetweenShots, AfterRow}

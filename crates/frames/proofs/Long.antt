@@ -11,8 +11,8 @@ use borrow.Author.Tests.{eqb-true, ne_eqb}
 use Rattle.lists.proofs.Truth.{case-of, and_left, cond_case}
 use Rattle.codes.specs.declared.Refusal.TheVariants as refusal
 use Rattle.bits.specs.Rows.{words}
-use Rattle.hex.specs.Hex.{between, digit_value, is_hex, all_digits, bytes_of, number, numbers}
-use Rattle.hex.proofs.Bytes.{between_facts, byte_count}
+use Rattle.hex_text.specs.Hex.{between, digit_value, is_hex, all_digits, bytes_of, number, numbers}
+use Rattle.hex_text.proofs.Bytes.{between_facts, byte_count}
 use Rattle.frames.specs.Frames.{Frame, header, mechanism, component, end, row, truth, frame_of, kind_of, symptom_long, symptom_of, when}
 use Rattle.frames.specs.Input.{Input, Read, next, refused, over, in_order, read_frame, read_bytes, read_line}
 use Rattle.frames.specs.Counts.{counts_of}

@@ -10,8 +10,8 @@ use lib.Dec.{eqb, ltb}
 use Rattle.lists.proofs.Truth.{clash, cond_case}
 use Rattle.codes.specs.declared.Refusal.TheVariants as refusal
 use Rattle.bits.specs.Rows.{words}
-use Rattle.hex.specs.Hex.{is_hex, bytes_of, number, numbers}
-use Rattle.hex.proofs.Runs.{numbers_long}
+use Rattle.hex_text.specs.Hex.{is_hex, bytes_of, number, numbers}
+use Rattle.hex_text.proofs.Runs.{numbers_long}
 use Rattle.frames.specs.declared.Stage.{Stage}
 use Rattle.frames.specs.declared.Stage.TheVariants.{Nothing, InModel, BetweenShots, AfterRow}
 use Rattle.frames.specs.Frames.{Frame, header, mechanism, component, end, row, truth, frame_of, kind_of, symptom_long, symptom_of, when}

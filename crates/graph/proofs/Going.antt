@@ -159,7 +159,7 @@ module _ (d o : ℕ) (t : Tables) where
       → Joined o (compile d o (model_of n t)) (compiled.Edges many) was out
   ended n i many was out place first next g h =
       let k : n ≡ i = (let b = g.here in omega arith) in
-      rw (k, g.into-edges) (ap compiled.Edges g.as_many, g.tables)
+      rw (k, g.into_edges) (ap compiled.Edges g.as_many, g.tables)
 
   -- what the next mechanism finds
   pub joined_next : (n i many : ℕ) (was out exit : Slices) (h : Mechanism) (place : Place) (first next : List ℕ) (r : Compiled) → Going n was i place many out first next → h ≡ head_of i t
@@ -170,7 +170,7 @@ module _ (d o : ℕ) (t : Tables) where
       let m : mechanism_at h place t.component_detectors t.component_observables t.entries ≡ mechanism i = rw (e, g.at) in
       let k : Joins o many (λ es. join_next i (mechanism i) es (check_mechanism d o i (mechanism i))) r out exit
       = subst (λ (m : ErrorMechanism). Joins o many (λ es. join_next i m es (check_mechanism d o i m)) r out exit) m j in
-      rw (compile_next i, g.into-edges) (k es was (sym g.as_many) g.tables)
+      rw (compile_next i, g.into_edges) (k es was (sym g.as_many) g.tables)
 
   pub many_few : (n i many : ℕ) (was out : Slices) (place : Place) (first next : List ℕ) → Going n was i place many out first next → many ≤ i
   many_few n i many was out place first next g = omega (arith, g.as_many, edges_few d o (model_of i t), count i t)

@@ -12,8 +12,8 @@ use borrow.Author.Tests.{eqb-true, eqb-false}
 use Rattle.lists.proofs.Truth.{case-of, clash, cond_case}
 use Rattle.codes.specs.declared.Refusal.{Refusal}
 use Rattle.codes.specs.declared.Refusal.TheVariants as refusal
-use Rattle.hex.specs.Hex.{is_hex, bytes_of, number, numbers}
-use Rattle.hex.proofs.Runs.{numbers_long, numbers_add}
+use Rattle.hex_text.specs.Hex.{is_hex, bytes_of, number, numbers}
+use Rattle.hex_text.proofs.Runs.{numbers_long, numbers_add}
 use Rattle.bits.specs.Rows.{words}
 use Rattle.frames.specs.declared.State.{State}
 use Rattle.frames.specs.declared.Line.{Line}

@@ -6,8 +6,8 @@ use mathlib.Core.Path.{◌≡◌, sym, ap, ap₂, ◌∙◌}
 use mathlib.Core.List.{List, [], ◌∷◌, ◌++◌}
 use lib.ListN.{length, drop, set, length-append}
 use lib.Seq.{sets, sets-eq}
-use Rattle.hex.specs.Hex.{text_of}
-use Rattle.hex.proofs.Texts.{text_append, text_long}
+use Rattle.hex_text.specs.Hex.{text_of}
+use Rattle.hex_text.proofs.Texts.{text_append, text_long}
 use Rattle.lists.proofs.Slices.{sets_append}
 use Rattle.replies.specs.Replies.{line_of}
 

@@ -8,7 +8,7 @@ use lib.ListN.{length, take, drop, length-take, length-drop}
 use Rattle.codes.specs.declared.Refusal.{Refusal}
 use Rattle.columns.specs.Columns.{column}
 use Rattle.columns.proofs.Columns.{column_length}
-use Rattle.hex.specs.Hex.{bytes_of}
+use Rattle.hex_text.specs.Hex.{bytes_of}
 use Rattle.dem.specs.Tables.{written}
 use Rattle.edges.specs.Tables.{Slices}
 use Rattle.frames.specs.declared.State.{State}

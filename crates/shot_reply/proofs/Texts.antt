@@ -8,8 +8,8 @@ use lib.ListN.{length, get_or, take, drop, replicate, length-append, drop_of_len
 use lib.Seq.{take-append_seam, drop-append_seam, take_all, drop-drop, drop-cons}
 use lib.Dec.{eqb}
 use borrow.Rule.Slice.PartMut.{mid_of, put_mid}
-use Rattle.hex.specs.Hex.{text_of, bytes_in, bytes_each}
-use Rattle.hex.proofs.Texts.{text_long, in_long, each_long}
+use Rattle.hex_text.specs.Hex.{text_of, bytes_in, bytes_each}
+use Rattle.hex_text.proofs.Texts.{text_long, in_long, each_long}
 use Rattle.replies.specs.Replies.{line_of, row_reply, list_reply}
 use Rattle.dem.specs.Tables.{written}
 use Rattle.shot_reply.specs.Outcome.{differs}

@@ -1,7 +1,7 @@
 -- `session::kind_of`: the first byte.
 use mathlib.Core.Path.{sym, ◌∙◌}
 use Rattle.frames.proofs.FrameKinds.{kind_none}
-use Rattle.hex.specs.Hex.{bytes_of}
+use Rattle.hex_text.specs.Hex.{bytes_of}
 use borrow.Author.Rules.{rules}
 use Rattle.session.proofs.kind_of.Statement.{statement}
 use Rattle.session.proofs.kind_of.Tie as tie

@@ -1,0 +1,8 @@
+use native.Mathlib.Omega.{arith}
+use mathlib.Core.Path.{sym}
+use Rattle.columns.proofs.Columns.{column_at}
+use borrow.Author.Rules.{rules}
+use Rattle.cells.proofs.pair.Goals as goal
+
+pub returns : goal.returns
+returns c = sym (column_at 0 c.args.k c.args.s.now c.args.d)

@@ -1,0 +1,18 @@
+use Prim.Native.Nat.{ℕ, ◌≤◌, ◌<◌, ◌-◌}
+use mathlib.Core.Path.{◌≡◌}
+use mathlib.Core.List.{[]}
+use native.Mathlib.Omega.{arith}
+use native.Mathlib.Nat.{not-suc-le-zero}
+use borrow.Author.Count.{below_more}
+use lib.ListN.{length, get_or}
+use Rattle.columns.specs.Columns.{Wide}
+use Rattle.columns.proofs.link_rows.Goals as goal
+
+pub loop-d-init : goal.loop-d-init
+loop-d-init c = (omega arith, λ e h. absurd (not-suc-le-zero h))
+
+pub loop-d-preserved : goal.loop-d-preserved
+loop-d-preserved c = (omega arith, below_more _ _ c.loop-d.invariant.1 c.wide4.ensures)
+
+pub returns : goal.returns
+returns c = record { wide = λ e h. c.loop-d.invariant.1 e (omega arith) }

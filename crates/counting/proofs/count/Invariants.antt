@@ -1,0 +1,20 @@
+-- `counting::count` meets its contract. The invariant: what is listed, and what is to be listed at the detectors from i on, is the answer.
+use Prim.Native.Nat.{◌-◌, ◌≤◌}
+use mathlib.Core.Path.{◌≡◌, refl, ◌∙◌}
+use mathlib.Core.List.{[], ◌∷◌}
+use mathlib.Core.Bool.{false}
+use native.Mathlib.Omega.{arith}
+use lib.ListN.{get_or, take}
+use lib.Seq.{slice, slice_empty}
+use Rattle.growth_state.proofs.Laws.{slice_next}
+use Rattle.columns.proofs.Columns.{column_length, keep_none, keep_then, keep_more, keep_length}
+use Rattle.cells.specs.Tables.{parents, hots, frees, front, touched, cnt, SameFlags, SameLinks}
+use Rattle.counting.proofs.Laws.{Gathering, taken_room, gathering_turn, gathered}
+use Rattle.counting.proofs.count.Given as goal
+
+abbrev pub invariant-loop-i : goal.invariant-loop-i
+invariant-loop-i l = (l.i ≤ l.m) × Gathering l.d l.edge_u l.edge_v (parents l.tree) l.sat (hots l.initial.flags) (take l.m (front l.stacks)) (frees l.initial.flags) (touched l.initial.links) (cnt l.initial.links) (frees l.flags) (touched l.links) (cnt l.links) l.at (slice l.i l.m (front l.stacks))
+    × SameFlags (4 ∷ []) l.initial.flags l.flags × SameLinks (0 ∷ 1 ∷ []) l.initial.links l.links
+
+abbrev pub decreases-loop-i : goal.decreases-loop-i
+decreases-loop-i l = l.m - l.i

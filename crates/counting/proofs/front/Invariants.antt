@@ -1,0 +1,25 @@
+-- `counting::front` meets its contract. The invariant: it holds of the detectors seen before i.
+use Prim.Native.Nat.{ℕ, ◌-◌, ◌≤◌, ◌<◌}
+use mathlib.Core.Path.{◌≡◌, refl, sym, ap, ◌∙◌}
+use mathlib.Core.List.{List, [], ◌∷◌}
+use mathlib.Core.Bool.{false}
+use native.Mathlib.Omega.{arith}
+use lib.Dec.{eqb}
+use lib.ListN.{length, get_or, set, take}
+use borrow.Author.Tests.{eqb-true, eqb-false}
+use Rattle.lists.specs.Lists.{filter}
+use Rattle.lists.proofs.Truth.{case-of}
+use Rattle.growth_state.proofs.Laws.{member_take}
+use Rattle.forest.specs.Forest.{Down, Flat, labels}
+use Rattle.columns.proofs.Columns.{column_length, keep_none, keep_then, keep_more}
+use Rattle.cells.specs.Tables.{parents, hots, seen, front, SameTree, SameStacks}
+use Rattle.counting.specs.Counting.{warm}
+use Rattle.counting.proofs.Laws.{front_hot, front_cold}
+use Rattle.counting.proofs.front.Given as goal
+
+abbrev pub invariant-loop-i : goal.invariant-loop-i
+invariant-loop-i l = (l.i ≤ l.n) × (l.m ≤ l.i) × Down l.d (parents l.tree) × (labels l.d (parents l.tree) ≡ labels l.d (parents l.initial.tree)) × SameTree (0 ∷ []) l.initial.tree l.tree × SameStacks (3 ∷ []) l.initial.stacks l.stacks
+    × ((x : ℕ) → x < l.d → Flat l.d (parents l.initial.tree) x → Flat l.d (parents l.tree) x) × ((j : ℕ) → j < l.i → Flat l.d (parents l.tree) (get_or (seen l.initial.stacks) j 0)) × (take l.m (front l.stacks) ≡ filter (warm l.d (parents l.initial.tree) (hots l.flags)) (take l.i (seen l.initial.stacks)))
+
+abbrev pub decreases-loop-i : goal.decreases-loop-i
+decreases-loop-i l = l.n - l.i

@@ -1,0 +1,14 @@
+-- `cover::earlier_equal` meets its contract. The invariant: the answer from here down is the whole answer.
+use Prim.Native.Nat.{◌≤◌}
+use mathlib.Core.Path.{◌≡◌, sym, ap, ◌∙◌}
+use native.Mathlib.Omega.{arith}
+use borrow.Author.Rules.{rules}
+use Rattle.cover.specs.Search.{previous, equal_at}
+use Rattle.cover.proofs.Turn.{previous_hit, previous_miss, previous_none}
+use Rattle.cover.proofs.earlier_equal.Given as goal
+
+abbrev pub invariant-loop-i : goal.invariant-loop-i
+invariant-loop-i l = (l.i ≤ l.j) × (previous (λ l.i. equal_at l.masks l.words0 l.words1 l.i l.j) l.i ≡ previous (λ l.i. equal_at l.masks l.words0 l.words1 l.i l.j) l.j)
+
+abbrev pub decreases-loop-i : goal.decreases-loop-i
+decreases-loop-i l = l.i

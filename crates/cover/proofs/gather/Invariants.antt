@@ -1,0 +1,17 @@
+-- `cover::gather` meets its contract. The invariant is `Merging`: the candidates so far, before those from the next mechanism on, are all of them.
+use Prim.Native.Nat.{ℕ, ◌-◌}
+use mathlib.Core.Path.{◌≡◌, refl, sym, ap, ◌∙◌}
+use mathlib.Core.List.{List, ◌++◌, append-nil}
+use native.Mathlib.Omega.{arith}
+use borrow.Author.Rules.{rules}
+use lib.ListN.{length, get_or, length-set, take}
+use Rattle.cover.specs.Kept.{detectors_at}
+use Rattle.cover.proofs.Steps.{fits_length, fits_rises, fits_below, member_at}
+use Rattle.cover.proofs.Merge.{Merging, begun, ended, head_is, taken, passed, no_more}
+use Rattle.cover.proofs.gather.Given as goal
+
+abbrev pub invariant-loop-next : goal.invariant-loop-next
+invariant-loop-next l = (length l.numbers ≡ length l.initial.numbers) × (length l.masks ≡ length l.initial.masks) × (length l.heads ≡ 16) × Merging (detectors_at l.starts l.detector_counts l.entries) l.kept l.ds l.next l.count l.numbers l.masks l.heads
+
+abbrev pub decreases-loop-next : goal.decreases-loop-next
+decreases-loop-next l = l.kept - l.next

@@ -1,0 +1,14 @@
+-- `cover::heads_of` meets its contract. The invariant: each head passed is in place.
+use Prim.Native.Nat.{ℕ, ◌<◌, ◌≤◌, ◌-◌}
+use mathlib.Core.Path.{◌≡◌, refl}
+use native.Mathlib.Omega.{arith}
+use borrow.Author.Rules.{rules}
+use lib.ListN.{length, get_or, length-set}
+use Rattle.cover.proofs.Steps.{rows_more, fits_length, fits_below, member_at}
+use Rattle.cover.proofs.heads_of.Given as goal
+
+abbrev pub invariant-loop-i : goal.invariant-loop-i
+invariant-loop-i l = (length l.heads ≡ 16) × (l.i ≤ length l.detectors) × ((k : ℕ) → k < l.i → get_or l.heads k 0 ≡ get_or l.first_of (get_or l.detectors k 0) 0)
+
+abbrev pub decreases-loop-i : goal.decreases-loop-i
+decreases-loop-i l = length l.detectors - l.i

@@ -1,0 +1,15 @@
+-- `edges::find_edge`: what is found from this place of the chain on is what is found at all.
+use Prim.Native.Nat.{◌-◌, ◌*◌, ◌+◌, ◌≤◌, ◌<◌}
+use mathlib.Core.Path.{◌≡◌, refl, sym, ap, ◌∙◌}
+use native.Mathlib.Omega.{arith}
+use lib.ListN.{length}
+use borrow.Author.Rules.{rules}
+use Rattle.edges.specs.Chains.{last_ends}
+use Rattle.edges.proofs.Chains.{onward, Link, fuel, start_link, start_onward, link_below, next_link, next_less, onward_found, onward_next, onward_end}
+use Rattle.edges.proofs.find_edge.Given as goal
+
+abbrev pub invariant-loop-at : goal.invariant-loop-at
+invariant-loop-at l = Link l.edge_u l.u l.count l.at × (onward l.edge_u l.edge_v l.u l.v l.at ≡ last_ends l.edge_u l.edge_v l.u l.v l.count)
+
+abbrev pub decreases-loop-at : goal.decreases-loop-at
+decreases-loop-at l = fuel l.at

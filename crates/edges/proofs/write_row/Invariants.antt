@@ -1,0 +1,15 @@
+-- `edges::write_row`: the bits still to set, set here, give what all give in the zero row.
+use Prim.Native.Nat.{ℕ, ◌+◌, ◌-◌, ◌/◌, ◌≤◌, ◌<◌}
+use mathlib.Core.Path.{◌≡◌, refl, sym, ap, ◌∙◌}
+use mathlib.Core.List.{List}
+use native.Mathlib.Omega.{arith}
+use lib.ListN.{length, drop, get_or, replicate}
+use borrow.Author.Rules.{rules}
+use Rattle.edges.proofs.Rows.{set_all, set_turn, set_end, length_set_bit, word_below, row_is}
+use Rattle.edges.proofs.write_row.Given as goal
+
+abbrev pub invariant-loop-i : goal.invariant-loop-i
+invariant-loop-i l = (length l.row ≡ length l.initial.row) × (set_all l.row (drop l.i l.list) ≡ set_all l.initial.row l.list)
+
+abbrev pub decreases-loop-i : goal.decreases-loop-i
+decreases-loop-i l = length l.list - l.i

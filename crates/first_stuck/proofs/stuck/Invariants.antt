@@ -1,0 +1,18 @@
+-- `first_stuck::stuck` meets its contract. Assumes nothing.
+use Prim.Native.Nat.{◌-◌, ◌≤◌}
+use mathlib.Core.Path.{◌≡◌, refl, sym, ap, ◌∙◌}
+use mathlib.Core.Bool.{false}
+use native.Mathlib.Omega.{arith}
+use lib.ListN.{take, get_or}
+use lib.Seq.{slice}
+use Rattle.columns.proofs.Columns.{column_length}
+use Rattle.cells.specs.Tables.{frees, active}
+use Rattle.first_stuck.specs.FirstStuck.{first_shut}
+use Rattle.first_stuck.proofs.Shut.{shut_next, shut_here, shut_end}
+use Rattle.first_stuck.proofs.stuck.Given as goal
+
+abbrev pub invariant-loop-i : goal.invariant-loop-i
+invariant-loop-i l = (l.i ≤ l.a) × (first_shut (frees l.flags) (slice l.i l.a (active l.stacks)) ≡ first_shut (frees l.flags) (take l.a (active l.stacks)))
+
+abbrev pub decreases-loop-i : goal.decreases-loop-i
+decreases-loop-i l = l.a - l.i

@@ -1,0 +1,22 @@
+-- `growing::grow` meets its contract. The invariant: the growths with the edges from i on moved, and what is listed with what those add, are the answer.
+use Prim.Native.Nat.{ℕ, ◌-◌, ◌+◌, ◌≤◌}
+use mathlib.Core.Path.{◌≡◌, refl, sym, ap, ◌∙◌}
+use mathlib.Core.List.{List, [], ◌∷◌, ◌++◌}
+use native.Mathlib.Omega.{arith}
+use lib.ListN.{length, get_or, set, take, length-set}
+use lib.Seq.{slice}
+use lib.Ieee.{Float, nan}
+use Rattle.columns.proofs.Columns.{column_length, keep_none, keep_then, keep_more}
+use Rattle.cells.specs.Tables.{touched, cnt, fresh, SameLinks}
+use Rattle.growing.specs.Growing.{grow_in, ripe_in, moved_by, reaches_from}
+use Rattle.growing.proofs.Laws.{grow_turn, grow_end, ripe_turn, ripe_end}
+use Rattle.growth_state.proofs.Laws.{byte_low}
+use Rattle.growing.proofs.grow.Given as goal
+
+abbrev pub invariant-loop-i : goal.invariant-loop-i
+invariant-loop-i l = (l.i ≤ l.m) × (l.k ≤ l.i) × (length l.growth ≡ length l.initial.growth) × SameLinks (2 ∷ []) l.initial.links l.links
+    × (grow_in l.step l.growth (slice l.i l.m (touched l.initial.links)) (slice l.i l.m (cnt l.initial.links)) ≡ grow_in l.step l.initial.growth (take l.m (touched l.initial.links)) (take l.m (cnt l.initial.links)))
+    × (take l.k (fresh l.links) ++ ripe_in l.step l.edge_weight l.growth (slice l.i l.m (touched l.initial.links)) (slice l.i l.m (cnt l.initial.links)) ≡ ripe_in l.step l.edge_weight l.initial.growth (take l.m (touched l.initial.links)) (take l.m (cnt l.initial.links)))
+
+abbrev pub decreases-loop-i : goal.decreases-loop-i
+decreases-loop-i l = l.m - l.i

@@ -1,0 +1,19 @@
+-- `growing::least` meets its contract. The invariant: the least of the steps from i on and of that so far is the answer.
+use Prim.Native.Nat.{◌-◌, ◌+◌, ◌≤◌}
+use mathlib.Core.Path.{◌≡◌, refl, sym, ap, ◌∙◌}
+use mathlib.Core.Bool.{false}
+use native.Mathlib.Omega.{arith}
+use lib.ListN.{take, get_or}
+use lib.Seq.{slice}
+use lib.Ieee.{Float, inf, nan, nan_bits, of_bits}
+use Rattle.columns.proofs.Columns.{column_length}
+use Rattle.cells.specs.Tables.{touched, cnt}
+use Rattle.growing.specs.Growing.{least_in, lesser_of, step_from}
+use Rattle.growing.proofs.Laws.{least_turn, least_end}
+use Rattle.growing.proofs.least.Given as goal
+
+abbrev pub invariant-loop-i : goal.invariant-loop-i
+invariant-loop-i l = (l.i ≤ l.m) × (least_in l.edge_weight l.growth l.b (slice l.i l.m (touched l.links)) (slice l.i l.m (cnt l.links)) ≡ least_in l.edge_weight l.growth (inf false) (take l.m (touched l.links)) (take l.m (cnt l.links)))
+
+abbrev pub decreases-loop-i : goal.decreases-loop-i
+decreases-loop-i l = l.m - l.i

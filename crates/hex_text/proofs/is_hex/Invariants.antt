@@ -1,0 +1,15 @@
+-- `hex::is_hex`: the digits from i on decide.
+use Prim.Native.Nat.{◌-◌}
+use mathlib.Core.Path.{◌≡◌, sym, ◌∙◌}
+use lib.ListN.{length, drop}
+use borrow.Author.Tests.{eq-eqb, ne_eqb, not-true, not-false}
+use borrow.Author.Rules.{rules}
+use Rattle.hex_text.specs.Hex.{all_digits, is_hex}
+use Rattle.hex_text.proofs.Bytes.{digits_next, digits_end}
+use Rattle.hex_text.proofs.is_hex.Given as goal
+
+abbrev pub invariant-loop-i : goal.invariant-loop-i
+invariant-loop-i l = all_digits (drop l.i l.line) ≡ is_hex l.line
+
+abbrev pub decreases-loop-i : goal.decreases-loop-i
+decreases-loop-i l = length l.line - l.i

@@ -1,0 +1,18 @@
+-- `marking::lowest` meets its contract: the lowest of the words from here on is the lowest of all.
+use Prim.Native.Nat.{◌≤◌, ◌-◌, ◌*◌}
+use mathlib.Core.Path.{◌≡◌, refl, ◌∙◌}
+use native.Mathlib.Omega.{arith}
+use lib.ListN.{length, get_or}
+use borrow.Author.Rules.{rules}
+use Rattle.bits.specs.Rows.{set_bits}
+use Rattle.bits.proofs.Listed.{rest_bits}
+use Rattle.bits.proofs.Lowest.{trailing_lt}
+use Rattle.marking.specs.Passes.{lowest_of}
+use Rattle.marking.proofs.LowestBit.{lowest_start, lowest_zero, lowest_here, lowest_end}
+use Rattle.marking.proofs.lowest.Given as goal
+
+abbrev pub invariant-loop-next : goal.invariant-loop-next
+invariant-loop-next l = (l.next ≤ length l.row) × (lowest_of (rest_bits l.row l.next) ≡ lowest_of (set_bits (64 * length l.row) l.row))
+
+abbrev pub decreases-loop-next : goal.decreases-loop-next
+decreases-loop-next l = length l.row - l.next

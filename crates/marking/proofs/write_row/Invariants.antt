@@ -1,0 +1,16 @@
+-- `marking::write_row` meets its contract: the row is the XOR of the edges from here on.
+use Prim.Native.Nat.{ℕ, ◌≤◌, ◌-◌, ◌*◌}
+use mathlib.Core.Path.{◌≡◌, refl, sym, ap, ◌∙◌}
+use native.Mathlib.Omega.{arith}
+use lib.ListN.{length, drop, replicate, length-replicate}
+use lib.Seq.{drop-length}
+use borrow.Author.Rules.{rules}
+use Rattle.marking.specs.Passes.{xor_rows}
+use Rattle.marking.proofs.Xors.{in_table, length_xors, xors_turn}
+use Rattle.marking.proofs.write_row.Given as goal
+
+abbrev pub invariant-loop-left : goal.invariant-loop-left
+invariant-loop-left l = (l.left ≤ length l.list) × (l.w ≡ length l.initial.row) × (l.row ≡ xor_rows l.w l.edge_obs (drop l.left l.list)) × (length l.row ≡ l.w)
+
+abbrev pub decreases-loop-left : goal.decreases-loop-left
+decreases-loop-left l = l.left

@@ -1,0 +1,22 @@
+-- `peeling::peel_all` meets its contract. The invariant: to peel the clusters left from here is to peel them all from the entry. Assumes nothing.
+use Prim.Native.Nat.{◌-◌}
+use mathlib.Core.Path.{refl, sym, ap, ◌∙◌}
+use mathlib.Core.List.{[], ◌∷◌}
+use mathlib.Core.Bool.{false}
+use native.Mathlib.Omega.{arith}
+use lib.ListN.{get_or}
+use borrow.Author.Tests.{not-true, not-false}
+use Rattle.forest.specs.Forest.{labels}
+use Rattle.columns.proofs.Columns.{column_length, keep_length, keep_none, keep_more, keep_then}
+use Rattle.cells.specs.Tables.{parents, lits, frees, defects, active, front, order_edge, order_parent, SameTree, SameFlags, SameStacks}
+use Rattle.walks.proofs.Rows.{moved}
+use Rattle.peeling.specs.Tables.{Same}
+use Rattle.peeling.proofs.Order.{Peeling, start_peel, end_peel, lit_in, x_in, turn_met, tabled, fresh, turn_peel, same_then}
+use Rattle.peeling.proofs.peel_all.Given as goal
+
+abbrev pub invariant-loop-i : goal.invariant-loop-i
+invariant-loop-i l = Peeling l.d l.edge_u l.edge_v l.sat (labels l.d (parents l.initial.tree)) (defects l.initial.stacks) l.defect_count (frees l.initial.flags) (lits l.initial.flags) (front l.initial.stacks) (active l.initial.stacks) (order_edge l.initial.stacks) (order_parent l.initial.stacks) l.initial.list l.i l.listed (frees l.flags) (lits l.flags) (front l.stacks) (active l.stacks) (order_edge l.stacks) (order_parent l.stacks) l.list
+    × Same l.d (parents l.initial.tree) (parents l.tree) × SameTree (0 ∷ []) l.initial.tree l.tree × SameFlags (0 ∷ 4 ∷ []) l.initial.flags l.flags × SameStacks (2 ∷ 3 ∷ 4 ∷ 5 ∷ []) l.initial.stacks l.stacks
+
+abbrev pub decreases-loop-i : goal.decreases-loop-i
+decreases-loop-i l = l.defect_count - l.i

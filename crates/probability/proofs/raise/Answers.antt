@@ -1,0 +1,12 @@
+-- `probability::raise`: one entry is stored.
+use mathlib.Core.Path.{refl, ap}
+use lib.Ieee.{Float, nan}
+use lib.ListN.{set}
+use Rattle.probability.specs.Probability.{raised_at}
+use borrow.Author.Rules.{rules}
+use Rattle.probability.proofs.raise.Goals as goal
+
+pub returns : goal.returns
+unfolding raised_at
+returns c =
+    ap (λ (v : Float). set c.args.probability.now c.args.k v) c.add_probability.ensures
