@@ -110,9 +110,9 @@ module _ (ds : List ℕ) where
   fits_same left s c =
       let p = fits_parts ds s c in
       iff_eq (fits (mask_of ds left) (mask_of ds s.detectors)) (chosen_fits left s)
-      (λ t. let q = turn.fits-parts (mask_of ds left) (mask_of ds s.detectors) t in fits_of left s p.0 (λ d m. and_mask ds left s.detectors q.1 d (p.1 d m) m))
+      (λ t. let q = turn.fits_parts (mask_of ds left) (mask_of ds s.detectors) t in fits_of left s p.0 (λ d m. and_mask ds left s.detectors q.1 d (p.1 d m) m))
       (λ t. let q = fits_parts left s t in
-      turn.fits-yes (mask_of ds left) (mask_of ds s.detectors) (λ z. clash (eq-eqb (mask_of ds s.detectors) 0 z) (sym (empty_mask s.detectors p.1) ∙ p.0)) (mask_and ds left s.detectors q.1))
+      turn.fits_yes (mask_of ds left) (mask_of ds s.detectors) (λ z. clash (eq-eqb (mask_of ds s.detectors) 0 z) (sym (empty_mask s.detectors p.1) ∙ p.0)) (mask_and ds left s.detectors q.1))
 
   -- a mechanism that is no candidate fits in no part of ds
   pub fits_less : (left : List ℕ) (s : Symptom) → Within ds left → chosen_fits ds s ≡ false → chosen_fits left s ≡ false

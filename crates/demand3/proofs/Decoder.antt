@@ -137,8 +137,8 @@ module _ (h : Handed) (r : Answer) (list row : List ℕ) (p : Decodes h r list r
       record {
         list_untouched = list_is (impossible n d) x;
         row_untouched = row_left_lem ∙ found.untouched (n, d, x) h.row;
-        rounds = (found.rounds-stuck n d x).0;
-        ended = (found.rounds-stuck n d x).1;
+        rounds = (found.rounds_stuck n d x).0;
+        ended = (found.rounds_stuck n d x).1;
         named = found.named n d x;
       }
 

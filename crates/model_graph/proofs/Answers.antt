@@ -275,8 +275,8 @@ bare D O e r entry exit c = record { sheet = c.sheet; answer = c.answer; ends = 
 pub refused_zero : (D O : ℕ) (x : Refusal) (r : Compiled) (entry exit : Slices) → r ≡ compiled.Refused x → exit.edge_u ≡ replicate (length entry.edge_u) 0
     → exit.edge_v ≡ replicate (length entry.edge_v) 0 → exit.edge_weight ≡ replicate (length entry.edge_weight) (fin false 0 (pos 0))
     → exit.edge_obs ≡ replicate (length entry.edge_obs) 0 → Compiles D O (edges.refused x) r entry exit
-unfolding graph.answer_of graph.callRow table_left
-refused_zero D O x r entry exit a u v w o = record { sheet = ap graph.sheetOf a; answer = a; ends = u; others = v; weights = w; rows = o }
+unfolding graph.answer_of graph.call_row table_left
+refused_zero D O x r entry exit a u v w o = record { sheet = ap graph.sheet_of a; answer = a; ends = u; others = v; weights = w; rows = o }
 
 module _ (n : State) (c : Columns) (left : Tables) (entry exit : Slices) (r : Compiled) where
   -- a refusal of decomposition is the answer

@@ -60,7 +60,7 @@ module _ (g : Graph) (row truth was : List ℕ) where
       let n : k - 0 ≡ length edges = omega (arith, long) in
       let front : mid_of 0 (k - 0) list' ≡ edges
       = ap (λ (x : List ℕ). take (k - 0) (drop 0 x)) l ∙ ap (λ (j : ℕ). take j (edges ++ drop (length edges) list)) n ∙ take-append_seam edges (drop (length edges) list) in
-      subst (λ (x : List ℕ). Replied (told (shot_text (steps.rowAfter g row edges) x) (differs (steps.rowAfter g row edges) truth)) r was out) front
+      subst (λ (x : List ℕ). Replied (told (shot_text (steps.row_after g row edges) x) (differs (steps.row_after g row edges) truth)) r was out) front
       (subst (λ (x : List ℕ). Replied (told (shot_text x (mid_of 0 (k - 0) list')) (differs x truth)) r was out) q p)
 
   by_long : (m k : ℕ) (list list' : List ℕ) (c : Checked) (y : Decoded) → answer.Decoded m k ≡ answer_of c y → list' ≡ list_after c list y → k ≤ length list'

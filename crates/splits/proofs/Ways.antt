@@ -62,7 +62,7 @@ module _ (ms : List ErrorMechanism) (was : Tables) (ks : List Symptom) (n : ℕ)
   kept_few : n ≤ length ms
   kept_few = omega (arith, f.few, r.counted)
 
-  same_symptom_lem : (k : ℕ) → k < n → get_or ks k none_such ≡ kept.symptomAt starts counts others es k
+  same_symptom_lem : (k : ℕ) → k < n → get_or ks k none_such ≡ kept.symptom_at starts counts others es k
   same_symptom_lem k l = f.same k (z k) (omega (arith, r.counted)) ∙ h.symptoms k (z k) (omega (arith, kept_few))
     where
       z : ℕ → ErrorMechanism

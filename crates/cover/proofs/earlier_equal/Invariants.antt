@@ -8,7 +8,7 @@ use Rattle.cover.proofs.Turn.{previous_hit, previous_miss, previous_none}
 use Rattle.cover.proofs.earlier_equal.Given as goal
 
 abbrev pub invariant-loop-i : goal.invariant-loop-i
-invariant-loop-i l = (l.i ≤ l.j) × (previous (λ l.i. equal_at l.masks l.words0 l.words1 l.i l.j) l.i ≡ previous (λ l.i. equal_at l.masks l.words0 l.words1 l.i l.j) l.j)
+invariant-loop-i l = (l.i ≤ l.j) × (previous (λ i. equal_at l.masks l.words0 l.words1 i l.j) l.i ≡ previous (λ i. equal_at l.masks l.words0 l.words1 i l.j) l.j)
 
 abbrev pub decreases-loop-i : goal.decreases-loop-i
 decreases-loop-i l = l.i

@@ -47,7 +47,7 @@ find_cover-requires c = record {
   worded0 = (front_length c.compact-n.new.words0 c.compact-n.result (omega (arith, c.compact-n.auto.words0, c.compact-n.ensures.counted, c.requires.compact.words0_hold))) ∙ sym (front_length c.compact-n.new.masks c.compact-n.result (omega (arith, c.compact-n.auto.masks, c.compact-n.ensures.counted, c.requires.compact.merged.masks_hold)));
   worded1 = (front_length c.compact-n.new.words1 c.compact-n.result (omega (arith, c.compact-n.auto.words1, c.compact-n.ensures.counted, c.requires.compact.words1_hold))) ∙ sym (front_length c.compact-n.new.masks c.compact-n.result (omega (arith, c.compact-n.auto.masks, c.compact-n.ensures.counted, c.requires.compact.merged.masks_hold)));
   marked = (front_length c.compact-n.new.earlier c.compact-n.result (omega (arith, c.compact-n.auto.earlier, c.compact-n.ensures.counted, c.requires.compact.earlier_hold))) ∙ sym (front_length c.compact-n.new.masks c.compact-n.result (omega (arith, c.compact-n.auto.masks, c.compact-n.ensures.counted, c.requires.compact.merged.masks_hold)));
-  shallow = omega (arith, ones-le 16 c.mask_within-mask.result c.mask_within-mask.type-inv);
+  shallow = omega (arith, ones-le 16 c.mask_within-mask.result c.mask_within-mask.type_inv);
   room = c.requires.room;
 }
 
@@ -55,4 +55,4 @@ pub returns : goal.returns
 returns c = found c.args.starts.now c.args.detector_counts.now c.args.observable_counts.now c.args.entries.now c.args.kept c.requires.compact.observables c.args.detectors.now c.args.observables.now c.requires.checked
     c.compact-n.result c.compact-n.new.numbers c.compact-n.new.masks c.compact-n.new.words0 c.compact-n.new.words1 c.compact-n.new.earlier c.compact-n.ensures
     _ c.mask_within-mask.result c.word_of-word0.result c.word_of-word1.result (omega (arith, (front_length c.compact-n.new.masks c.compact-n.result (omega (arith, c.compact-n.auto.masks, c.compact-n.ensures.counted, c.requires.compact.merged.masks_hold))))) c.mask_within-mask.ensures c.word_of-word0.ensures c.word_of-word1.ensures
-    c.args.chosen.now (omega (arith, ones-le 16 c.mask_within-mask.result c.mask_within-mask.type-inv, c.requires.room)) _ _ c.find_cover.ensures
+    c.args.chosen.now (omega (arith, ones-le 16 c.mask_within-mask.result c.mask_within-mask.type_inv, c.requires.room)) _ _ c.find_cover.ensures

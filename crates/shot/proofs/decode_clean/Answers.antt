@@ -78,10 +78,10 @@ shape_of-sat c = c.grow_and_answer.auto.sat
 
 pub returns : goal.returns
 returns c =
-    record {
-      answers = (relit (graph_in c.args.detectors c.args.observables c.args.edge_u.now c.args.edge_v.now c.args.edge_weight.now c.args.edge_obs.now) c.args.list.now c.args.row.now (lit_row (lit_listed c.args.detectors c.args.shot.now (defects c.args.stacks.now) c.list_set_bits-l.ensures.0 c.list_set_bits-l.ensures.1 (keep_length 0 c.list_set_bits-l.ensures.2 0) c.requires.places.lit_ones) c.requires.clean (room_on c.list_set_bits-l.ensures.2 c.requires.places.seens c.requires.places.actives) c.light.ensures.0 (keep_length false c.light.ensures.1 0) (keep_length false c.light.ensures.1 2) (keep_length false c.light.ensures.1 1) (keep_length false c.light.ensures.1 3) (keep_length 0 c.light.ensures.2 2) (keep_length 0 c.light.ensures.2 1)) (c.grow_and_answer.ensures.answers, (c.grow_and_answer.ensures.lists, (c.grow_and_answer.ensures.rows, (c.grow_and_answer.ensures.rests, c.grow_and_answer.ensures.wides))))).0;
-      lists = (relit (graph_in c.args.detectors c.args.observables c.args.edge_u.now c.args.edge_v.now c.args.edge_weight.now c.args.edge_obs.now) c.args.list.now c.args.row.now (lit_row (lit_listed c.args.detectors c.args.shot.now (defects c.args.stacks.now) c.list_set_bits-l.ensures.0 c.list_set_bits-l.ensures.1 (keep_length 0 c.list_set_bits-l.ensures.2 0) c.requires.places.lit_ones) c.requires.clean (room_on c.list_set_bits-l.ensures.2 c.requires.places.seens c.requires.places.actives) c.light.ensures.0 (keep_length false c.light.ensures.1 0) (keep_length false c.light.ensures.1 2) (keep_length false c.light.ensures.1 1) (keep_length false c.light.ensures.1 3) (keep_length 0 c.light.ensures.2 2) (keep_length 0 c.light.ensures.2 1)) (c.grow_and_answer.ensures.answers, (c.grow_and_answer.ensures.lists, (c.grow_and_answer.ensures.rows, (c.grow_and_answer.ensures.rests, c.grow_and_answer.ensures.wides))))).1.0;
-      rows = (relit (graph_in c.args.detectors c.args.observables c.args.edge_u.now c.args.edge_v.now c.args.edge_weight.now c.args.edge_obs.now) c.args.list.now c.args.row.now (lit_row (lit_listed c.args.detectors c.args.shot.now (defects c.args.stacks.now) c.list_set_bits-l.ensures.0 c.list_set_bits-l.ensures.1 (keep_length 0 c.list_set_bits-l.ensures.2 0) c.requires.places.lit_ones) c.requires.clean (room_on c.list_set_bits-l.ensures.2 c.requires.places.seens c.requires.places.actives) c.light.ensures.0 (keep_length false c.light.ensures.1 0) (keep_length false c.light.ensures.1 2) (keep_length false c.light.ensures.1 1) (keep_length false c.light.ensures.1 3) (keep_length 0 c.light.ensures.2 2) (keep_length 0 c.light.ensures.2 1)) (c.grow_and_answer.ensures.answers, (c.grow_and_answer.ensures.lists, (c.grow_and_answer.ensures.rows, (c.grow_and_answer.ensures.rests, c.grow_and_answer.ensures.wides))))).1.1.0;
-      rests = (relit (graph_in c.args.detectors c.args.observables c.args.edge_u.now c.args.edge_v.now c.args.edge_weight.now c.args.edge_obs.now) c.args.list.now c.args.row.now (lit_row (lit_listed c.args.detectors c.args.shot.now (defects c.args.stacks.now) c.list_set_bits-l.ensures.0 c.list_set_bits-l.ensures.1 (keep_length 0 c.list_set_bits-l.ensures.2 0) c.requires.places.lit_ones) c.requires.clean (room_on c.list_set_bits-l.ensures.2 c.requires.places.seens c.requires.places.actives) c.light.ensures.0 (keep_length false c.light.ensures.1 0) (keep_length false c.light.ensures.1 2) (keep_length false c.light.ensures.1 1) (keep_length false c.light.ensures.1 3) (keep_length 0 c.light.ensures.2 2) (keep_length 0 c.light.ensures.2 1)) (c.grow_and_answer.ensures.answers, (c.grow_and_answer.ensures.lists, (c.grow_and_answer.ensures.rows, (c.grow_and_answer.ensures.rests, c.grow_and_answer.ensures.wides))))).1.1.1.0;
-      wides = (relit (graph_in c.args.detectors c.args.observables c.args.edge_u.now c.args.edge_v.now c.args.edge_weight.now c.args.edge_obs.now) c.args.list.now c.args.row.now (lit_row (lit_listed c.args.detectors c.args.shot.now (defects c.args.stacks.now) c.list_set_bits-l.ensures.0 c.list_set_bits-l.ensures.1 (keep_length 0 c.list_set_bits-l.ensures.2 0) c.requires.places.lit_ones) c.requires.clean (room_on c.list_set_bits-l.ensures.2 c.requires.places.seens c.requires.places.actives) c.light.ensures.0 (keep_length false c.light.ensures.1 0) (keep_length false c.light.ensures.1 2) (keep_length false c.light.ensures.1 1) (keep_length false c.light.ensures.1 3) (keep_length 0 c.light.ensures.2 2) (keep_length 0 c.light.ensures.2 1)) (c.grow_and_answer.ensures.answers, (c.grow_and_answer.ensures.lists, (c.grow_and_answer.ensures.rows, (c.grow_and_answer.ensures.rests, c.grow_and_answer.ensures.wides))))).1.1.1.1;
+    let k = relit (graph_in c.args.detectors c.args.observables c.args.edge_u.now c.args.edge_v.now c.args.edge_weight.now c.args.edge_obs.now) c.args.list.now c.args.row.now {C = Unit {0}} (lit_row (lit_listed c.args.detectors c.args.shot.now (defects c.args.stacks.now) c.list_set_bits-l.ensures.0 c.list_set_bits-l.ensures.1 (keep_length 0 c.list_set_bits-l.ensures.2 0) c.requires.places.lit_ones) c.requires.clean (room_on c.list_set_bits-l.ensures.2 c.requires.places.seens c.requires.places.actives) c.light.ensures.0 (keep_length false c.light.ensures.1 0) (keep_length false c.light.ensures.1 2) (keep_length false c.light.ensures.1 1) (keep_length false c.light.ensures.1 3) (keep_length 0 c.light.ensures.2 2) (keep_length 0 c.light.ensures.2 1)) (c.grow_and_answer.ensures.answers, (c.grow_and_answer.ensures.lists, (c.grow_and_answer.ensures.rows, tt))) in record {
+      answers = k.0;
+      lists = k.1.0;
+      rows = k.1.1.0;
+      rests = c.grow_and_answer.ensures.rests;
+      wides = c.grow_and_answer.ensures.wides;
     }

@@ -61,12 +61,12 @@ shape_of-sat-then-detector c = c.stuck_shot.auto.sat ∙ c.round-s.auto.sat ∙ 
 
 pub returns-then-detector : goal.returns-then-detector
 returns-then-detector c =
-    record {
-      answers = (relit (graph_in c.args.detectors c.args.observables c.args.edge_u.now c.args.edge_v.now c.args.edge_weight.now c.args.edge_obs.now) c.args.list.now c.args.row.now ((c.round-s.ensures.2.rest 0 refl) ∙ (c.loop-a.invariant.5.rest 0 refl)) (c.stuck_shot.ensures.answers, (c.stuck_shot.ensures.lists c.args.list.now, (c.stuck_shot.ensures.rows c.args.row.now, (c.stuck_shot.ensures.rests, (c.stuck_shot.ensures.wides.0, c.stuck_shot.ensures.wides.1, c.round-s.ensures.3.rows, c.round-s.ensures.4.rows)))))).0;
-      lists = (relit (graph_in c.args.detectors c.args.observables c.args.edge_u.now c.args.edge_v.now c.args.edge_weight.now c.args.edge_obs.now) c.args.list.now c.args.row.now ((c.round-s.ensures.2.rest 0 refl) ∙ (c.loop-a.invariant.5.rest 0 refl)) (c.stuck_shot.ensures.answers, (c.stuck_shot.ensures.lists c.args.list.now, (c.stuck_shot.ensures.rows c.args.row.now, (c.stuck_shot.ensures.rests, (c.stuck_shot.ensures.wides.0, c.stuck_shot.ensures.wides.1, c.round-s.ensures.3.rows, c.round-s.ensures.4.rows)))))).1.0;
-      rows = (relit (graph_in c.args.detectors c.args.observables c.args.edge_u.now c.args.edge_v.now c.args.edge_weight.now c.args.edge_obs.now) c.args.list.now c.args.row.now ((c.round-s.ensures.2.rest 0 refl) ∙ (c.loop-a.invariant.5.rest 0 refl)) (c.stuck_shot.ensures.answers, (c.stuck_shot.ensures.lists c.args.list.now, (c.stuck_shot.ensures.rows c.args.row.now, (c.stuck_shot.ensures.rests, (c.stuck_shot.ensures.wides.0, c.stuck_shot.ensures.wides.1, c.round-s.ensures.3.rows, c.round-s.ensures.4.rows)))))).1.1.0;
-      rests = (relit (graph_in c.args.detectors c.args.observables c.args.edge_u.now c.args.edge_v.now c.args.edge_weight.now c.args.edge_obs.now) c.args.list.now c.args.row.now ((c.round-s.ensures.2.rest 0 refl) ∙ (c.loop-a.invariant.5.rest 0 refl)) (c.stuck_shot.ensures.answers, (c.stuck_shot.ensures.lists c.args.list.now, (c.stuck_shot.ensures.rows c.args.row.now, (c.stuck_shot.ensures.rests, (c.stuck_shot.ensures.wides.0, c.stuck_shot.ensures.wides.1, c.round-s.ensures.3.rows, c.round-s.ensures.4.rows)))))).1.1.1.0;
-      wides = (relit (graph_in c.args.detectors c.args.observables c.args.edge_u.now c.args.edge_v.now c.args.edge_weight.now c.args.edge_obs.now) c.args.list.now c.args.row.now ((c.round-s.ensures.2.rest 0 refl) ∙ (c.loop-a.invariant.5.rest 0 refl)) (c.stuck_shot.ensures.answers, (c.stuck_shot.ensures.lists c.args.list.now, (c.stuck_shot.ensures.rows c.args.row.now, (c.stuck_shot.ensures.rests, (c.stuck_shot.ensures.wides.0, c.stuck_shot.ensures.wides.1, c.round-s.ensures.3.rows, c.round-s.ensures.4.rows)))))).1.1.1.1;
+    let k = relit (graph_in c.args.detectors c.args.observables c.args.edge_u.now c.args.edge_v.now c.args.edge_weight.now c.args.edge_obs.now) c.args.list.now c.args.row.now {C = Unit {0}} ((c.round-s.ensures.2.rest 0 refl) ∙ (c.loop-a.invariant.5.rest 0 refl)) (c.stuck_shot.ensures.answers, (c.stuck_shot.ensures.lists c.args.list.now, (c.stuck_shot.ensures.rows c.args.row.now, tt))) in record {
+      answers = k.0;
+      lists = k.1.0;
+      rows = k.1.1.0;
+      rests = c.stuck_shot.ensures.rests;
+      wides = (c.stuck_shot.ensures.wides.0, c.stuck_shot.ensures.wides.1, c.round-s.ensures.3.rows, c.round-s.ensures.4.rows);
     }
 
 pub overflow_add-rounds : goal.overflow_add-rounds
@@ -87,7 +87,7 @@ end_shot-length-requires c =
       grown = joins.grown c.requires.tables settled refl c.words-w.ensures left;
       lit = joins.lights c.requires.tables settled refl c.words-w.ensures left;
       settles = joins.settles c.requires.tables settled refl c.words-w.ensures left;
-      cleaning = joins.to-clean c.requires.tables settled;
+      cleaning = joins.to_clean c.requires.tables settled;
       used = settled.used;
       wide = (c.loop-a.invariant.4.rows, c.loop-a.invariant.5.rows, c.loop-a.invariant.6.rows);
     }
@@ -120,9 +120,9 @@ pub returns : goal.returns
 returns c =
     let settled = settles (joins.space c.requires.tables {front = front c.args.stacks.now} {touched = touched c.args.links.now} {cnt = cnt c.args.links.now} c.requires.left.fronts c.requires.edge_u_in_bounds.0 c.requires.edge_u_in_bounds.1).ends c.loop-a.invariant.0 c.loop-a.rounds c.loop-a.invariant.1 c.loop-a.invariant.2 (omega (arith, c.loop-a-test.false)) in
     let left = left_kept c.loop-a.invariant.6 c.requires.left (c.loop-a.invariant.5.rest 0 refl) in record {
-      answers = joins.decoded-answer c.requires.tables settled refl c.words-w.ensures left c.end_shot-length.ensures.finished c.end_shot-length.auto.list ∙ ap (λ x. shot_of (decode (graph_in c.args.detectors c.args.observables c.args.edge_u.now c.args.edge_v.now c.args.edge_weight.now c.args.edge_obs.now) x)) (c.loop-a.invariant.5.rest 0 refl);
-      lists = joins.decoded-list c.requires.tables settled refl c.words-w.ensures left c.end_shot-length.ensures.finished ∙ ap (λ x. list_left c.args.list.now (decode (graph_in c.args.detectors c.args.observables c.args.edge_u.now c.args.edge_v.now c.args.edge_weight.now c.args.edge_obs.now) x)) (c.loop-a.invariant.5.rest 0 refl);
-      rows = joins.decoded-row c.requires.tables settled refl c.words-w.ensures left c.end_shot-length.ensures.finished ∙ ap (λ x. row_left (graph_in c.args.detectors c.args.observables c.args.edge_u.now c.args.edge_v.now c.args.edge_weight.now c.args.edge_obs.now) c.args.row.now (decode (graph_in c.args.detectors c.args.observables c.args.edge_u.now c.args.edge_v.now c.args.edge_weight.now c.args.edge_obs.now) x)) (c.loop-a.invariant.5.rest 0 refl);
+      answers = joins.decoded_answer c.requires.tables settled refl c.words-w.ensures left c.end_shot-length.ensures.finished c.end_shot-length.auto.list ∙ ap (λ x. shot_of (decode (graph_in c.args.detectors c.args.observables c.args.edge_u.now c.args.edge_v.now c.args.edge_weight.now c.args.edge_obs.now) x)) (c.loop-a.invariant.5.rest 0 refl);
+      lists = joins.decoded_list c.requires.tables settled refl c.words-w.ensures left c.end_shot-length.ensures.finished ∙ ap (λ x. list_left c.args.list.now (decode (graph_in c.args.detectors c.args.observables c.args.edge_u.now c.args.edge_v.now c.args.edge_weight.now c.args.edge_obs.now) x)) (c.loop-a.invariant.5.rest 0 refl);
+      rows = joins.decoded_row_lem c.requires.tables settled refl c.words-w.ensures left c.end_shot-length.ensures.finished ∙ ap (λ x. row_left (graph_in c.args.detectors c.args.observables c.args.edge_u.now c.args.edge_v.now c.args.edge_weight.now c.args.edge_obs.now) c.args.row.now (decode (graph_in c.args.detectors c.args.observables c.args.edge_u.now c.args.edge_v.now c.args.edge_weight.now c.args.edge_obs.now) x)) (c.loop-a.invariant.5.rest 0 refl);
       rests = c.end_shot-length.ensures.clean;
       wides = (c.end_shot-length.ensures.wide_2.0, c.end_shot-length.ensures.wide_2.1, c.end_shot-length.ensures.wide_2.2.rows, c.loop-a.invariant.7.rows);
     }

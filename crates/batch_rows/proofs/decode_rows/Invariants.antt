@@ -1,0 +1,29 @@
+-- `batch_rows::decode_rows` meets its contract. The invariant: the answer and the rows from the next shot on are the whole answer and all rows, and the tables are at rest.
+use Prim.Native.Nat.{ℕ, ◌+◌, ◌-◌}
+use mathlib.Core.Path.{◌≡◌, refl, ap, ◌∙◌}
+use native.Mathlib.Omega.{arith}
+use native.Mathlib.Nat.{sub-zero}
+use borrow.Author.Rules.{rules}
+use lib.ListN.{length}
+use Rattle.lists.specs.Lists.{from, below}
+use Rattle.shot.specs.Shots.{graph_in}
+use Rattle.batch_rows.specs.Ready.{Ready}
+use Rattle.batch_rows.specs.Rows.{check_shots_of, rows_of}
+use Rattle.batch_rows.proofs.Turns.{end_answer, end_rows, stops, goes_on, given_row}
+use Rattle.batch_rows.proofs.decode_rows.Given as goal
+
+abbrev pub invariant-loop-next : goal.invariant-loop-next
+invariant-loop-next l = (check_shots_of (graph_in l.detectors l.observables l.edge_u l.edge_v l.edge_weight l.edge_obs) l.rows (from (l.shots - l.next) l.next) ≡ check_shots_of (graph_in l.detectors l.observables l.edge_u l.edge_v l.edge_weight l.edge_obs) l.rows (below l.shots))
+    × (rows_of (graph_in l.detectors l.observables l.edge_u l.edge_v l.edge_weight l.edge_obs) l.rows (from (l.shots - l.next) l.next) l.out ≡ rows_of (graph_in l.detectors l.observables l.edge_u l.edge_v l.edge_weight l.edge_obs) l.rows (below l.shots) l.initial.out)
+    × Ready l.detectors (length l.edge_u) l.tree l.flags l.stacks l.links l.growth l.sat
+    × (length l.out ≡ length l.initial.out)
+    × (length l.list ≡ length l.initial.list)
+    × (length l.tree ≡ length l.initial.tree)
+    × (length l.flags ≡ length l.initial.flags)
+    × (length l.stacks ≡ length l.initial.stacks)
+    × (length l.links ≡ length l.initial.links)
+    × (length l.growth ≡ length l.initial.growth)
+    × (length l.sat ≡ length l.initial.sat)
+
+abbrev pub decreases-loop-next : goal.decreases-loop-next
+decreases-loop-next l = l.shots - l.next
