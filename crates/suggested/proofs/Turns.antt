@@ -18,7 +18,7 @@ use Rattle.codes.specs.declared.Refusal.TheVariants.{Limit}
 use Rattle.dem.specs.Model.{Symptom, ErrorMechanism, list_fits, symptom_fits, symptoms_fit}
 use Rattle.dem.specs.Tables.{Tables, components_of, component_entries}
 use Rattle.dem.specs.Decompose.{Places, Split, into, refused, plus, add_at, has_place, add_component, add_next, add_components, last_equal, one_or_two}
-use Rattle.dem.proofs.Checks.{first_of, next_of, first_inside, others_inside}
+use Rattle.dem.proofs.Checks.{first_of_lem, next_of, first_inside, others_inside}
 use Rattle.last_equal.specs.declared.Span.{Span}
 use Rattle.suggested.specs.declared.Size.{Size}
 use Rattle.suggested.specs.declared.Added.{Added}
@@ -42,14 +42,14 @@ module _ (n c e D : ℕ) (cds cos es : List ℕ) (h : 0 < n) where
       let m = n - 1 in
       let p : n ≡ suc m = omega arith in
       ap (λ (k : ℕ). components_from k c e cds cos es) p
-      ∙ rw (first_of c cds 0, first_of c cos 0, next_of c cds, next_of c cos, drop-drop (get_or cds c 0) e es, drop-drop size_here e es)
+      ∙ rw (first_of_lem c cds 0, first_of_lem c cos 0, next_of c cds, next_of c cos, drop-drop (get_or cds c 0) e es, drop-drop size_here e es)
 
   entries_turn : component_entries n (drop c cds) (drop c cos) ≡ size_here + component_entries (n - 1) (drop (c + 1) cds) (drop (c + 1) cos)
   unfolding component_entries
   entries_turn =
       let m = n - 1 in
       let p : n ≡ suc m = omega arith in
-      ap (λ (k : ℕ). component_entries k (drop c cds) (drop c cos)) p ∙ rw (first_of c cds 0, first_of c cos 0, next_of c cds, next_of c cos)
+      ap (λ (k : ℕ). component_entries k (drop c cds) (drop c cos)) p ∙ rw (first_of_lem c cds 0, first_of_lem c cos 0, next_of c cds, next_of c cos)
 
   module _ (s : Suggested n c e D cds cos es) where
     rest : List Symptom

@@ -1,0 +1,16 @@
+-- `last_equal::same_list`: the entries from i on are equal just where all are.
+use Prim.Native.Nat.{ℕ, ◌+◌, ◌-◌, ◌≤◌}
+use mathlib.Core.Path.{◌≡◌, refl, sym, ap, ◌∙◌}
+use native.Mathlib.Omega.{arith}
+use lib.ListN.{length, get_or, drop}
+use borrow.Author.Rules.{rules}
+use borrow.Author.Tests.{eq-eqb, ne_eqb}
+use Rattle.dem.specs.Decompose.{same_list}
+use Rattle.last_equal.proofs.Same.{lengths_differ, same_turn, same_end}
+use Rattle.last_equal.proofs.same_list.Given as goal
+
+abbrev pub invariant-loop-i : goal.invariant-loop-i
+invariant-loop-i l = (length l.a ≡ length l.b) × (same_list (drop l.i l.a) (drop l.i l.b) ≡ same_list l.a l.b)
+
+abbrev pub decreases-loop-i : goal.decreases-loop-i
+decreases-loop-i l = length l.a - l.i

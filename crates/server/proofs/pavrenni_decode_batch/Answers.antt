@@ -1,0 +1,37 @@
+-- `server::pavrenni_decode_batch` meets its contract: the words of what the call answers. Each is named, since a search for it costs a second.
+use borrow.Author.Rules.{rules}
+use Rattle.server.proofs.pavrenni_decode_batch.Goals as goal
+
+pub shape_of-out : goal.shape_of-out
+shape_of-out c = c.decode_batch.auto.out
+
+pub shape_of-list : goal.shape_of-list
+shape_of-list c = c.decode_batch.auto.list
+
+pub shape_of-adj_offsets : goal.shape_of-adj_offsets
+shape_of-adj_offsets c = c.decode_batch.auto.adj_offsets
+
+pub shape_of-adj : goal.shape_of-adj
+shape_of-adj c = c.decode_batch.auto.adj
+
+pub shape_of-tree : goal.shape_of-tree
+shape_of-tree c = c.decode_batch.auto.tree
+
+pub shape_of-flags : goal.shape_of-flags
+shape_of-flags c = c.decode_batch.auto.flags
+
+pub shape_of-stacks : goal.shape_of-stacks
+shape_of-stacks c = c.decode_batch.auto.stacks
+
+pub shape_of-links : goal.shape_of-links
+shape_of-links c = c.decode_batch.auto.links
+
+pub shape_of-growth : goal.shape_of-growth
+shape_of-growth c = c.decode_batch.auto.growth
+
+pub shape_of-sat : goal.shape_of-sat
+shape_of-sat c = c.decode_batch.auto.sat
+
+pub returns : goal.returns
+returns c =
+    record { answer = c.decode_batch.result; told = c.batch_words.ensures; holds = c.decode_batch.ensures }

@@ -1,0 +1,7 @@
+-- `session::write_end`: by how the input ends.
+use mathlib.Core.Path.{sym}
+use borrow.Author.Rules.{rules}
+use Rattle.session.proofs.write_end.Goals as goal
+
+pub returns : goal.returns
+returns c = rw c.at_end-end.ensures at c.write_last.ensures

@@ -1,0 +1,24 @@
+-- `suggested::add_components`: what is left to do from the model so far gives the whole.
+use Prim.Native.Nat.{ℕ, ◌+◌, ◌-◌, ◌≤◌}
+use mathlib.Core.Path.{◌≡◌, refl, sym, ap, ◌∙◌, subst}
+use mathlib.Core.List.{List}
+use native.Mathlib.Omega.{arith}
+use lib.ListN.{length, get_or}
+use borrow.Author.Rules.{rules}
+use Rattle.dem.specs.Model.{ErrorMechanism}
+use Rattle.dem.specs.Tables.{Tables, components_of}
+use Rattle.dem.specs.Decompose.{into, add_components}
+use Rattle.last_equal.specs.Last.{symptom_in}
+use Rattle.suggested.specs.Held.{places_of, Holds, Held, Outcome, Roomy, components_from, Suggested}
+use Rattle.suggested.proofs.Turns.{span_at, components_turn, component_here, others_suggested, Continued, continue_next, continue_full, continue_end}
+use Rattle.suggested.proofs.add_components.Given as goal
+
+abbrev pub invariant-loop-left : goal.invariant-loop-left
+invariant-loop-left l = Suggested l.left l.component l.entry (length l.last_of) l.component_detectors l.component_observables l.entries × Roomy l.left l.sized l.room l.starts l.detector_counts l.observable_counts l.probability l.before
+    × (length l.starts ≡ length l.initial.starts) × (length l.detector_counts ≡ length l.initial.detector_counts) × (length l.observable_counts ≡ length l.initial.observable_counts)
+    × (length l.probability ≡ length l.initial.probability) × (length l.last_of ≡ length l.initial.last_of) × (length l.before ≡ length l.initial.before)
+    × ((ms : List ErrorMechanism) (was : Tables) → Holds ms was l.initial.sized l.entries l.initial.starts l.initial.detector_counts l.initial.observable_counts l.initial.probability l.initial.last_of l.initial.before
+    → Continued l.room l.p (add_components (places_of l.room) l.p (components_from l.initial.left l.initial.component l.initial.entry l.component_detectors l.component_observables l.entries) (into ms)) was l.entries (components_from l.left l.component l.entry l.component_detectors l.component_observables l.entries) l.sized l.starts l.detector_counts l.observable_counts l.probability l.last_of l.before)
+
+abbrev pub decreases-loop-left : goal.decreases-loop-left
+decreases-loop-left l = l.left
