@@ -1,0 +1,7 @@
+-- `stream::start`: before the first byte.
+use Rattle.stream.proofs.Wholes.{start_is}
+use borrow.Author.Rules.{rules}
+use Rattle.stream.proofs.start.Goals as goal
+
+pub returns : goal.returns
+returns c = start_is c.begin-numbers.result c.begin-numbers.ensures
