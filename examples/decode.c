@@ -1,8 +1,8 @@
 /* Pavrenni from C: the model of docs/RULES.md, "Frames", is decomposed and compiled, a shot decoded, its list marked,
  * the rate of four shots taken. examples/decode.out has what is printed. At the top of the repository:
  *
- *     rt staticlib server
- *     cc -Iinclude examples/decode.c target/staticlib/libserver.a -o decode && ./decode
+ *     (cd crates/server && rt lib)
+ *     cc -Iinclude examples/decode.c crates/server/out/libserver.a -o decode && ./decode
  */
 #include <inttypes.h>
 #include <stdio.h>

@@ -6,6 +6,7 @@ use std::path::{Path, PathBuf};
 use std::process::{exit, Command};
 
 const LIBRARY: &str = "libserver.a";
+const SERVER: &str = "crates/server";
 
 fn main() {
     println!("cargo:rerun-if-env-changed=PAVRENNI_LIB_DIR");
@@ -30,7 +31,7 @@ fn library_folder() -> Result<PathBuf, String> {
     let top = crate_folder.parent().ok_or("the crate stands in no repository")?;
     let named = env::var_os("PAVRENNI_LIB_DIR").map(PathBuf::from);
     let asked = named.is_none() && env::var_os("PAVRENNI_PROVE").is_some_and(|asked| asked == "1");
-    let folder = named.unwrap_or_else(|| top.join("target").join("staticlib"));
+    let folder = named.unwrap_or_else(|| top.join(SERVER).join("out"));
     if asked && !folder.join(LIBRARY).is_file() {
         make_library(top)?;
     }
@@ -44,17 +45,18 @@ fn library_folder() -> Result<PathBuf, String> {
 /// What to do about it.
 fn missing(folder: &Path, top: &Path) -> String {
     format!(
-        "there is no {LIBRARY} in {}: run `rt staticlib server` in {}, which proves it in some minutes and leaves it in \
-         target/staticlib there, or name another folder that has one in PAVRENNI_LIB_DIR; with PAVRENNI_PROVE=1, and \
-         PAVRENNI_LIB_DIR unset, cargo runs the command itself",
+        "there is no {LIBRARY} in {}: run `rt lib` in {}, which proves it in some minutes and leaves it in out there, or \
+         name another folder that has one in PAVRENNI_LIB_DIR; with PAVRENNI_PROVE=1, and PAVRENNI_LIB_DIR unset, cargo \
+         runs the command itself",
         folder.display(),
-        top.display()
+        top.join(SERVER).display()
     )
 }
 
 fn make_library(top: &Path) -> Result<(), String> {
-    let command = format!("`rt staticlib server` in {}", top.display());
-    let status = Command::new("rt").args(["staticlib", "server"]).current_dir(top).status();
+    let server = top.join(SERVER);
+    let command = format!("`rt lib` in {}", server.display());
+    let status = Command::new("rt").arg("lib").current_dir(server).status();
     match status {
         Ok(status) if status.success() => Ok(()),
         Ok(status) => Err(format!("{command} ended with {status}")),

@@ -13,7 +13,7 @@ if ! command -v cc >/dev/null 2>&1 && ! command -v cargo >/dev/null 2>&1; then
 fi
 said=$(mktemp)
 trap 'rm -f "$said"' EXIT
-rt staticlib server >"$said" 2>&1 &
+(cd crates/server && rt lib) >"$said" 2>&1 &
 making=$!
 reference=${PAVRENNI_REFERENCE:-../shared/docs/src}
 if command -v cargo >/dev/null 2>&1 && [ -f "$reference/src/qec/decoder.rs" ]; then

@@ -1,14 +1,15 @@
 #!/usr/bin/env python3
-"""tools/edits.py: a quick look at every must-fail edit, with no check.
+"""tools/edits.py [--said FILE]: a quick look at every must-fail edit, with no check.
 
-Says where an `old:` text does not stand in its file just once, and where the log of an edit that was tried (target/must-fail) shows
-that it was refused for its shape and not because a fact fails. Exit status 1 if there are any.
+Says where an `old:` text does not stand in its file just once. With --said it reads what `rt ci` or `rt must-fail` printed, and says which
+edits were bad, or were refused for their shape and not because a fact fails. Exit status 1 if there are any.
 """
 import re
 import sys
 from pathlib import Path
 
-SHAPE = re.compile(r"has no .Need-|cannot be named|not in scope|no field|unknown name")
+SHAPE = re.compile(r"^rt: must-fail (\S+)\.edit: .*only because a proof file names what the edit took away")
+BAD = re.compile(r"^rt: (?:must-fail |crates/)(\S+)\.edit: BAD EDIT")
 TOP = Path(__file__).resolve().parent.parent
 
 
@@ -33,14 +34,23 @@ def faults(edit):
             old = None
     if not pairs:
         yield "has no `old:` and `new:` pair"
-    log = TOP / "target" / "must-fail" / crate.name / edit.stem / ".log"
-    if log.is_file():
-        error = next((line for line in log.read_text(encoding="utf-8", errors="replace").splitlines() if "error" in line), "")
-        if SHAPE.search(error):
-            yield f"was refused for its shape: {error[:200]}"
+
+
+def told(said):
+    """What is wrong with edits by what a run printed of them: the edit, and the fault."""
+    for line in said.splitlines():
+        if found := BAD.match(line):
+            yield found[1], "is bad: " + line.split("BAD EDIT", 1)[1].lstrip(": ")[:200]
+        elif found := SHAPE.match(line):
+            yield found[1], "was refused for its shape"
 
 
 def main():
+    if sys.argv[1:2] == ["--said"]:
+        bad = list(told(Path(sys.argv[2]).read_text(encoding="utf-8", errors="replace")))
+        for edit, fault in bad:
+            print(f"{edit}: {fault}")
+        return 1 if bad else 0
     edits = sorted(TOP.glob("crates/*/must-fail/*.edit"))
     bad = [(edit, fault) for edit in edits for fault in faults(edit)]
     for edit, fault in bad:

@@ -58,10 +58,11 @@ class Edits(Tree):
         self.assertIn("has no `old:`", self.faults()[0])
 
     def test_refused_for_its_shape(self):
-        self.put("target/must-fail/low/two/.log", "x: error: module `tie` has no `Need-returns` that can be named from here\n")
-        self.assertIn("shape", self.faults()[0])
-        self.put("target/must-fail/low/two/.log", "x: error: `returns`: 1 is not 2\n")
-        self.assertEqual(self.faults(), [])
+        said = "rt: must-fail low/two.edit: refused, as it must be"
+        shape = said + " (only because a proof file names what the edit took away, so this says little of the contract: ..): x"
+        self.assertEqual(list(edits.told(shape)), [("low/two", "was refused for its shape")])
+        self.assertEqual(list(edits.told("rt: must-fail low/two.edit: BAD EDIT: it changes nothing")), [("low/two", "is bad: it changes nothing")])
+        self.assertEqual(list(edits.told(said + ": ./proofs/one/Answers.antt:9:1: error: `returns`: 1 is not 2\n")), [])
 
 
 class Deps(Tree):
@@ -71,7 +72,7 @@ class Deps(Tree):
         self.assertEqual(deps.named("low", known), [])
 
     def test_names_of_proofs(self):
-        self.put("crates/low/proofs/Laws.antt", "-- Rattle·high.specs is only told of\nuse Rattle·high.specs.M.{a}\nuse Rattle·low·specs.specs.N.{b}\n")
+        self.put("crates/low/proofs/Laws.antt", "-- Rattle.high.specs is only told of\nuse Rattle.high.specs.M.{a}\nuse Rattle.low.specs.N.{b}\n")
         self.assertEqual(deps.named("low", [*deps.listed()]), ["high"])
 
 

@@ -6,9 +6,10 @@ crate=$(cd "$(dirname "$0")/.." && pwd)
 work=$(cd "$(mktemp -d)" && pwd -P)
 trap 'rm -rf "$work"' EXIT
 top=$work/top
-made=$top/target/staticlib
+server=$top/crates/server
+made=$server/out
 called=$work/called
-mkdir -p "$top/rust" "$work/bin" "$work/other"
+mkdir -p "$top/rust" "$server" "$work/bin" "$work/other"
 cp -R "$crate/Cargo.toml" "$crate/Cargo.lock" "$crate/build.rs" "$crate/src" "$top/rust/"
 cat >"$work/bin/rt" <<'RT'
 #!/bin/sh
@@ -16,7 +17,7 @@ echo "$PWD: rt $*" >>"$CALLED"
 eval "$STAND_IN"
 RT
 chmod +x "$work/bin/rt"
-makes='mkdir -p target/staticlib && echo "!<arch>" >target/staticlib/libserver.a'
+makes='mkdir -p out && echo "!<arch>" >out/libserver.a'
 
 # Longer than cargo takes on a busy machine to say no, and far shorter than proving.
 seconds=60
@@ -29,7 +30,7 @@ wrong() {
 
 # check STAND-IN [NAME=VALUE ..]: `cargo check` with these variables set, while `rt` does as told.
 check() {
-  rm -rf "$called" "$top/target"
+  rm -rf "$called" "$made"
   status=0
   (cd "$top/rust" && env -u PAVRENNI_LIB_DIR -u PAVRENNI_PROVE PATH="$work/bin:$PATH" CALLED="$called" STAND_IN="$1" \
     CARGO_TARGET_DIR="$work/built" "${@:2}" timeout "$seconds" cargo check --offline) >"$work/said" 2>&1 || status=$?
@@ -40,7 +41,7 @@ never_proves() { [ ! -e "$called" ] || wrong "\`rt\` was run: $(cat "$called")";
 
 proves() {
   calls=$(cat "$called" 2>&1) || true
-  [ "$calls" = "$top: rt staticlib server" ] || wrong "how \`rt\` was run: $calls"
+  [ "$calls" = "$server: rt lib" ] || wrong "how \`rt\` was run: $calls"
 }
 
 passes() { [ "$status" -eq 0 ] || wrong "this had to pass, and ended with $status"; }
@@ -53,7 +54,7 @@ says() {
 # refuses FOLDER [NAME=VALUE ..]: no library in the folder, and the message says what to do.
 refuses() {
   check "$makes" "${@:2}"
-  says "there is no libserver.a in $1: run \`rt staticlib server\` in $top,"
+  says "there is no libserver.a in $1: run \`rt lib\` in $server,"
   says PAVRENNI_LIB_DIR
   never_proves
 }
@@ -68,10 +69,10 @@ check "$makes" PAVRENNI_PROVE=1
 passes
 proves
 check "exit 3" PAVRENNI_PROVE=1
-says "\`rt staticlib server\` in $top ended with exit status: 3"
+says "\`rt lib\` in $server ended with exit status: 3"
 proves
 check true PAVRENNI_PROVE=1
-says "there is no libserver.a in $made: run \`rt staticlib server\` in $top,"
+says "there is no libserver.a in $made: run \`rt lib\` in $server,"
 proves
 
 echo "!<arch>" >"$work/other/libserver.a"

@@ -2,7 +2,7 @@
 # The C headers: compiled alone, their structs held to layout.txt, their version to the Rust client's. Then programs
 # that link the library and call it, and examples/decode.c held to what it must print. clang and a C++ compiler are
 # tried where they are there. tests/c/run.sh --header stops before the library.
-# PAVRENNI_LIB_DIR: the folder of the library, else target/staticlib. PAVRENNI_RUN: what the programs are run under, as
+# PAVRENNI_LIB_DIR: the folder of the library, else crates/server/out. PAVRENNI_RUN: what the programs are run under, as
 #     PAVRENNI_RUN="valgrind --quiet --leak-check=full --error-exitcode=1" tests/c/run.sh
 set -euo pipefail
 here=$(cd "$(dirname "$0")" && pwd)
@@ -55,9 +55,9 @@ grep -qxF "#define PAVRENNI_VERSION $version" "$top/include/pavrenni.h" || {
 echo "C: the headers compile, the structs are as layout.txt says, the version is $version"
 [ "${1:-}" = --header ] && exit 0
 
-library=${PAVRENNI_LIB_DIR:-$top/target/staticlib}/libserver.a
+library=${PAVRENNI_LIB_DIR:-$top/crates/server/out}/libserver.a
 [ -f "$library" ] || {
-  echo "tests/c: there is no $library: run \`rt staticlib server\` in $top, or name its folder in PAVRENNI_LIB_DIR" >&2
+  echo "tests/c: there is no $library: run \`rt lib\` in $top/crates/server, or name its folder in PAVRENNI_LIB_DIR" >&2
   exit 1
 }
 read -ra under <<<"${PAVRENNI_RUN:-}"

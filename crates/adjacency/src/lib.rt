@@ -1,4 +1,6 @@
 // The edges at each detector, ascending, each in a row with its other end: adj_offsets has where each detector's begin, adj the rows.
+#![tactic(auto)]
+
 ghost use Rattle.std.specs.Prelude.{◌+◌, ◌*◌, ◌<◌, ◌≤◌, ◌≡◌, length, get_or, replicate};
 ghost use Rattle.adjacency.specs.Adjacent.{Sized, Counted, Summed, Put, Adjacent};
 ghost use Rattle.adjacency.specs.Pairs.{near, away, Tabled, AdjacentParts};

@@ -1,4 +1,6 @@
 // A batch decoded: docs/RULES.md, "Shots and rows" and "Refusals". The call checks all that it is handed, puts its scratch to rest and decodes its shots.
+#![tactic(auto)]
+
 ghost use Rattle.std.specs.Prelude.{length};
 ghost use Rattle.scratch.specs.Scratch.{lengths_of};
 ghost use Rattle.lent_graph.specs.Call.{lent_of};

@@ -1,4 +1,6 @@
 // The shots of a batch decoded one after another, each into its row of the output: docs/RULES.md, "Shots and rows".
+#![tactic(auto)]
+
 ghost use Rattle.std.specs.Prelude.{◌<◌, ◌≤◌, ◌≡◌, length};
 ghost use Rattle.lists.specs.Lists.{below};
 ghost use Rattle.bits.specs.Rows.{words};

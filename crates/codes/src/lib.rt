@@ -1,5 +1,7 @@
 // docs/RULES.md, "Refusals": what a call refuses with, and the limits.
 // The Rust has one error for all of these, `PrismError::InvalidParameter`, with a text; here the case is the message.
+#![tactic(auto)]
+
 ghost use Rattle.std.specs.Prelude.{◌≡◌};
 ghost use Rattle.codes.specs.Codes.{code_of, first_of, second_of};
 ghost use Rattle.codes.specs.Limits.{check_counts, check_shots};

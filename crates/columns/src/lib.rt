@@ -1,4 +1,6 @@
 // Tables: slices of rows, each an array. Their width is a fact of their type: these functions hand it over, and compile to nothing.
+#![tactic(auto)]
+
 ghost use Rattle.std.specs.Prelude.{◌<◌, ◌≡◌, [], length, get_or};
 ghost use Rattle.columns.specs.Columns.{Wide};
 

@@ -1,4 +1,6 @@
 // docs/RULES.md, "Growth", step 1: the live detectors listed, their open edges counted, the first stuck cluster.
+#![tactic(auto)]
+
 ghost use Rattle.std.specs.Prelude.{◌+◌, ◌<◌, ◌≡◌, true, false, cond, length, eqb, [], ◌∷◌};
 ghost use Rattle.counting.specs.Counting.{Fronting, Fronted, Tabled, taken_at, CountedAt, Counting, Counted};
 ghost use Rattle.columns.specs.Columns.{Wide};

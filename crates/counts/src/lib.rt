@@ -1,4 +1,6 @@
 // The table of counts of a model that is read: a row for each mechanism and for each component, a byte for each count. An entry read and stored, a column taken out.
+#![tactic(auto)]
+
 ghost use Rattle.std.specs.Prelude.{◌<◌, ◌≤◌, ◌≡◌, [], ◌∷◌, length, get_or, set, take};
 ghost use Rattle.columns.specs.Columns.{column, Wide, Keeps};
 

@@ -1,4 +1,6 @@
 // The first cover of a mechanism of over two detectors by the kept mechanisms.
+#![tactic(auto)]
+
 ghost use Rattle.std.specs.Prelude.{◌≡◌, true, ◌&&◌, ℕ, ◌-◌, ◌+◌, ◌<◌, ◌≤◌, length, get_or, eqb};
 ghost use Rattle.dem.specs.Model.{list_fits};
 ghost use Rattle.dem.specs.Cover.{first_cover};

@@ -1,4 +1,6 @@
 // A shot decoded: docs/RULES.md, "Growth" and "Peeling". The call checks all that it is handed, puts its scratch to rest and decodes.
+#![tactic(auto)]
+
 ghost use Rattle.std.specs.Prelude.{◌<◌, ◌≤◌, ◌≡◌, length};
 ghost use Rattle.steps.specs.Shot.{decode, row_left};
 ghost use Rattle.steps.specs.Call.{graph_of, lit_of, list_left};

@@ -1,4 +1,6 @@
 // docs/RULES.md, "Decomposition": a model in its tables is checked, decomposed into output tables, or refused.
+#![tactic(auto)]
+
 ghost use Rattle.std.specs.Prelude.{◌≡◌, List, ◌++◌, ℕ, ◌-◌, ◌≤◌, length, take};
 ghost use Rattle.dem.specs.Tables.{Tables, model_of, symptom_entries, tables_written, written};
 ghost use Rattle.dem.specs.Positions.{tables};

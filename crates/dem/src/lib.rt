@@ -1,4 +1,6 @@
 // docs/RULES.md, "Models": a detector error model in flat tables, read.
+#![tactic(auto)]
+
 ghost use Rattle.std.specs.Prelude.{◌≡◌, ◌+◌, ◌^◌, ◌<◌, ◌≤◌, length};
 ghost use Rattle.dem.specs.Positions.{head_at, place_past, place_of, Summed, columns, Counted};
 

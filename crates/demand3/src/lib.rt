@@ -1,4 +1,6 @@
 // Demand 3, run: a shot is decoded and the marker judges the decoder's own list. The contract says that it passes and writes the same row.
+#![tactic(auto)]
+
 ghost use Rattle.std.specs.Prelude.{length};
 ghost use Rattle.scratch.specs.Scratch.{lengths_of};
 ghost use Rattle.lent_graph.specs.Call.{lent_of};

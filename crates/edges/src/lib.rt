@@ -1,4 +1,6 @@
 // docs/RULES.md, "Graphs": mechanisms with the same detectors share one edge, found by a chain and written into the tables.
+#![tactic(auto)]
+
 ghost use Rattle.std.specs.Prelude.{◌≡◌, true, false, ◌&&◌, ◌+◌, ◌*◌, ◌<◌, ◌≤◌, eqb, length, set, replicate, pos};
 ghost use Rattle.std.specs.Float.{fin};
 ghost use Rattle.bits.specs.Rows.{words};

@@ -1,4 +1,6 @@
 // Shots that fail, and their rate: docs/RULES.md, "The rate".
+#![tactic(auto)]
+
 ghost use Rattle.std.specs.Prelude.{◌≡◌, true, cond, length};
 ghost use Rattle.bits.specs.Rows.{words, is_clear};
 ghost use Rattle.codes.specs.declared.Checked.TheVariants.{Accepted};

@@ -1,4 +1,6 @@
 // docs/RULES.md, "Growth", step 1: the first active cluster with no edge to grow.
+#![tactic(auto)]
+
 ghost use Rattle.std.specs.Prelude.{◌+◌, ◌<◌, ◌≡◌, take};
 ghost use Rattle.first_stuck.specs.FirstStuck.{Checking, first_shut};
 ghost use Rattle.cells.specs.Tables.{frees, active};

@@ -1,4 +1,6 @@
 // docs/RULES.md, "Frames": what a line says, and the answer to it by the numbers of what was read.
+#![tactic(auto)]
+
 ghost use Rattle.std.specs.Prelude.{◌≡◌, true, false, cond, ◌+◌, ◌≤◌, length, drop};
 ghost use Rattle.hex_text.specs.Hex.{bytes_of};
 ghost use Rattle.frames.specs.Frames.{kind_of, symptom_long, symptom_of, frame_of};

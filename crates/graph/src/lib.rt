@@ -1,4 +1,6 @@
 // docs/RULES.md, "Graphs": compiling a model to its edges.
+#![tactic(auto)]
+
 ghost use Rattle.std.specs.Prelude.{◌≡◌, false, ◌&&◌, ◌+◌, ◌<◌, ◌≤◌, leb, pos, length, replicate};
 ghost use Rattle.std.specs.Float.{fin};
 ghost use Rattle.codes.specs.declared.Checked.TheVariants.{Accepted};

@@ -1,4 +1,6 @@
 // docs/RULES.md, "Decomposition" and "Refusals": the call, with its refusals in their order.
+#![tactic(auto)]
+
 ghost use Rattle.std.specs.Prelude.{◌≡◌};
 ghost use Rattle.dem.specs.Tables.{model_of, tables_zero};
 ghost use Rattle.dem.specs.Positions.{tables};

@@ -1,4 +1,6 @@
 // docs/RULES.md, "Growth", step 2: the least step, and the counted edges grown by it.
+#![tactic(auto)]
+
 ghost use Rattle.std.specs.Prelude.{◌+◌, ◌*◌, ◌<◌, ◌≡◌, false, length, take, [], ◌∷◌};
 ghost use Rattle.std.specs.Float.{inf};
 ghost use Rattle.growing.specs.Growing.{share_of, step_from, lesser_of, Growing, least_in, moved_by, reaches_from, Ripened};

@@ -1,4 +1,6 @@
 // docs/RULES.md, "Frames": lower-case hexadecimal, big-endian. A line is read where it stands, digit by digit, so nothing bounds its length.
+#![tactic(auto)]
+
 ghost use Rattle.std.specs.Prelude.{◌≡◌, ◌+◌, ◌*◌, ◌/◌, ◌<◌, ◌≤◌, [], ◌∷◌, length, get_or, take, drop};
 ghost use Rattle.std.proofs.lemmas.List.Edits.{sets};
 ghost use Rattle.hex_text.specs.Hex.{between, is_digit, digit_value, is_hex, bytes_of, number, numbers, digit_of, text_of, bytes_in, bytes_each};

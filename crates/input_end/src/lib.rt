@@ -1,4 +1,6 @@
 // docs/RULES.md, "Frames": the last line of an input, and the line after it.
+#![tactic(auto)]
+
 ghost use Rattle.std.specs.Prelude.{◌≡◌, [], ◌+◌, ◌-◌, ◌≤◌, length, take, true};
 ghost use Rattle.edges.specs.Tables.{slices};
 ghost use Rattle.reader.specs.Columns.{columns_of};

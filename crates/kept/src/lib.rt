@@ -1,4 +1,6 @@
 // docs/RULES.md, "Decomposition": the kept mechanisms are copied, column by column.
+#![tactic(auto)]
+
 ghost use Rattle.std.specs.Prelude.{◌+◌, ◌<◌, ◌≤◌, length, take};
 ghost use Rattle.std.specs.Float.{nan};
 ghost use Rattle.dem.specs.Positions.{total, tables};

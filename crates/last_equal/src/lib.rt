@@ -1,4 +1,6 @@
 // docs/RULES.md, "Decomposition": the last mechanism with equal lists, by chains of the mechanisms with the same first detector.
+#![tactic(auto)]
+
 ghost use Rattle.std.specs.Prelude.{◌≡◌, true, false, ◌+◌, ◌<◌, ◌≤◌, length, get_or};
 ghost use Rattle.dem.specs.Decompose.{same_list, same_symptom};
 ghost use Rattle.cover.specs.Kept.{detectors_at, symptom_at, Detectors};

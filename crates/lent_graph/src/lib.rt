@@ -1,4 +1,6 @@
 // docs/RULES.md, "Graphs" and "Refusals": the check of a lent graph, and what every call on one checks first.
+#![tactic(auto)]
+
 ghost use Rattle.std.specs.Prelude.{◌≡◌, ◌*◌, ◌≤◌, length};
 ghost use Rattle.lists.specs.Lists.{below};
 ghost use Rattle.bits.specs.Rows.{words, is_clear};

@@ -1,4 +1,6 @@
 // The lit detectors of a shot, each begun as a cluster of its own: docs/RULES.md, "Growth".
+#![tactic(auto)]
+
 ghost use Rattle.std.specs.Prelude.{◌<◌, [], ◌∷◌, take, length};
 ghost use Rattle.columns.specs.Columns.{Wide};
 ghost use Rattle.cells.specs.Tables.{lits, knowns, odds, hots, defects, seen, active, SameFlags, SameStacks};

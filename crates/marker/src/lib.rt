@@ -1,4 +1,6 @@
 // The marker: docs/RULES.md, "Marking". A lent graph, a shot and any list of edge numbers.
+#![tactic(auto)]
+
 ghost use Rattle.std.specs.Prelude.{◌≡◌, length};
 ghost use Rattle.lent_graph.specs.Call.{lent_of};
 ghost use Rattle.marker.specs.Answer.{marker_long, Marks};

@@ -1,4 +1,6 @@
 // The passes of marking: docs/RULES.md, "Marking". A list is judged against a shot, and the row of its observables is written.
+#![tactic(auto)]
+
 ghost use Rattle.std.specs.Prelude.{◌≡◌, true, ◌*◌, ◌/◌, ◌<◌, ◌≤◌, length};
 ghost use Rattle.bits.specs.Rows.{set_bits};
 ghost use Rattle.steps.specs.Graph.{boundary};

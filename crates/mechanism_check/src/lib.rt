@@ -1,4 +1,6 @@
 // docs/RULES.md, "Models": the check of a mechanism, its lists and then its probability.
+#![tactic(auto)]
+
 ghost use Rattle.std.specs.Prelude.{◌≡◌, ◌+◌, ◌≤◌, length, drop};
 ghost use Rattle.dem.specs.Model.{list_fits, symptom_fits, symptoms_fit, lists_fit, probability_fits, check_mechanism};
 ghost use Rattle.dem.specs.Tables.{components_of};

@@ -1,4 +1,6 @@
 // docs/RULES.md, "Frames": the model that was read, its probabilities from their bits, and its check at 04.
+#![tactic(auto)]
+
 ghost use Rattle.std.specs.Prelude.{◌≡◌, ◌++◌, map, ◌≤◌, length, take, drop, replicate, false, pos};
 ghost use Rattle.model_check.specs.Bits.{probability_of};
 ghost use Rattle.std.specs.Float.{fin};

@@ -1,10 +1,10 @@
 -- The answers of the calls on tables into which an input was read.
-use Prim.Native.Nat.{ℕ, ◌+◌, ◌-◌, ◌*◌, ◌≤◌, min}
+use Prim.Native.Nat.{ℕ, ◌-◌, ◌*◌, ◌≤◌, min}
 use native.Mathlib.Omega.{arith}
 use native.Mathlib.Nat.{mul-le-mul, sub-zero}
 use mathlib.Core.Path.{◌≡◌, refl, sym, ap, ◌∙◌, subst}
-use mathlib.Core.List.{List, [], ◌∷◌}
-use mathlib.Core.Bool.{Bool, true, false, not, ◌&&◌}
+use mathlib.Core.List.{List, []}
+use mathlib.Core.Bool.{true, false, not}
 use lib.IntN.{pos}
 use lib.ListN.{length, take, drop, replicate, length-append}
 use lib.Seq.{take_all, take-length}
@@ -25,7 +25,7 @@ use Rattle.dem.specs.Model.{ErrorMechanism, check_model}
 use Rattle.dem.specs.Tables.{Tables, model_of, components_in, entries_in, columns_hold, lists_hold, tables_hold, tables_of, tables_written}
 use Rattle.dem.specs.Positions.{tables}
 use Rattle.dem.specs.Check.{check_all}
-use Rattle.dem.specs.Decompose.{Split, into, refused, decompose}
+use Rattle.dem.specs.Decompose.{Split, into, refused}
 use Rattle.codes.proofs.Checks.{then_accepted, unless_accepted}
 use Rattle.dem.proofs.Laws.{laws}
 use Rattle.suggested.proofs.Models.{lengths}

@@ -1,4 +1,6 @@
 // docs/RULES.md, "Frames": at 04 the model that was read is checked, decomposed and compiled.
+#![tactic(auto)]
+
 ghost use Rattle.std.specs.Prelude.{min, ◌≡◌, [], length, replicate};
 ghost use Rattle.dem.specs.Positions.{tables};
 ghost use Rattle.edges.specs.Tables.{slices};

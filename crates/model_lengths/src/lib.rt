@@ -1,4 +1,6 @@
 // docs/RULES.md, "Refusals", 2: the lengths that decomposition asks of its output tables and its scratch.
+#![tactic(auto)]
+
 ghost use Rattle.std.specs.Prelude.{◌≡◌, ◌&&◌, min, ◌≤◌, leb};
 ghost use Rattle.codes.specs.Limits.{max_mechanisms};
 ghost use Rattle.dem.specs.Tables.{columns_hold, lists_hold};

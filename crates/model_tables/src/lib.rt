@@ -1,4 +1,6 @@
 // docs/RULES.md, "Models": the tables of a model, as long as their counts tell, and every mechanism in them checked.
+#![tactic(auto)]
+
 ghost use Rattle.std.specs.Prelude.{◌≡◌, [], true, not, ◌≤◌};
 ghost use Rattle.codes.specs.declared.Refusal.TheVariants.{Short};
 ghost use Rattle.codes.specs.Order.{refuse_if};

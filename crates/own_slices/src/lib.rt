@@ -1,4 +1,6 @@
 // The test of a call's own slices by their lengths. What an accepted call hands on is in proofs/.
+#![tactic(auto)]
+
 ghost use Rattle.std.specs.Prelude.{◌*◌, ◌≡◌, leb};
 ghost use Rattle.own_slices.specs.Long.{slices_long};
 

@@ -1,4 +1,6 @@
 // Packed shots: docs/RULES.md, "Shots and rows". Shots one after another, a row of words each.
+#![tactic(auto)]
+
 ghost use Rattle.std.specs.Prelude.{◌≡◌, ◌+◌, ◌*◌, length};
 ghost use Rattle.lists.specs.Lists.{below};
 ghost use Rattle.bits.specs.Rows.{words};

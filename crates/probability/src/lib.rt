@@ -1,4 +1,6 @@
 // docs/RULES.md, "Decomposition": adding p to q is q·(1-p) + p·(1-q), each operation rounded once.
+#![tactic(auto)]
+
 ghost use Rattle.std.specs.Prelude.{◌≡◌, ℕ, ◌+◌, ◌<◌, length, get_or};
 ghost use Rattle.dem.specs.Decompose.{plus};
 ghost use Rattle.probability.specs.Probability.{raised_at, raised_all};

@@ -1,4 +1,6 @@
 // The logical error rate of a batch: docs/RULES.md, "The rate" and "Refusals".
+#![tactic(auto)]
+
 ghost use Rattle.std.specs.Prelude.{◌≡◌, length};
 ghost use Rattle.lent_graph.specs.Call.{lent_of};
 ghost use Rattle.rate.specs.Checks.{check_both, check_rate};

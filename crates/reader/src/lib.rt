@@ -1,4 +1,6 @@
 // docs/RULES.md, "Frames": a line read into tables. It is checked whole before anything is written.
+#![tactic(auto)]
+
 ghost use Rattle.std.specs.Prelude.{◌≡◌, true, ◌+◌, ◌-◌, ◌<◌, ◌≤◌, min, length, get_or, take, drop, set};
 ghost use Rattle.std.proofs.lemmas.List.Edits.{sets};
 ghost use Rattle.hex_text.specs.Hex.{bytes_of, number};

@@ -1,4 +1,6 @@
 // docs/RULES.md, "Frames" and "The rate": the lines that are written. Each goes to the front of a slice that is long enough, and the answer is its length.
+#![tactic(auto)]
+
 ghost use Rattle.std.specs.Prelude.{◌≡◌, ◌++◌, ◌+◌, ◌*◌, ◌≤◌, length, drop};
 ghost use Rattle.codes.specs.Codes.{code_of};
 ghost use Rattle.replies.specs.Replies.{line_of, row_reply, list_reply, rate_reply, refusal_reply};

@@ -1,4 +1,6 @@
 // Tables at rest: put to rest as a call begins, and after each shot what it has changed.
+#![tactic(auto)]
+
 ghost use Rattle.std.specs.Prelude.{◌+◌, ◌<◌, ◌≡◌, length, take, set, replicate, false, map};
 ghost use Rattle.std.proofs.Math.Seq.{slice};
 ghost use Rattle.std.specs.Float.{binary64};

@@ -1,4 +1,6 @@
 // The scratch slices of the decoder by their lengths, a slice for each table: docs/SCRATCH.md.
+#![tactic(auto)]
+
 ghost use Rattle.std.specs.Prelude.{◌≡◌, ◌&&◌, ◌≤◌, leb, ltb};
 ghost use Rattle.codes.specs.Limits.{max_detectors, max_mechanisms};
 ghost use Rattle.scratch.specs.Scratch.{lengths_for, scratch_long};

@@ -1,4 +1,6 @@
 // The C exports, all of them. Each takes numbers and slices, checks what it is handed and answers with a struct by value.
+#![tactic(auto)]
+
 ghost use Rattle.std.specs.Prelude.{◌≡◌, length, ◌≤◌};
 ghost use Rattle.decoder.specs.Answer.{handed, Decodes};
 ghost use Rattle.batch.specs.Batch as batched;

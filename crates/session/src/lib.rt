@@ -1,4 +1,6 @@
 // docs/RULES.md, "Frames": a line of an input answered, and the end of the input. The text goes to the front of a slice, and the answer tells its length.
+#![tactic(auto)]
+
 ghost use Rattle.std.specs.Prelude.{◌≡◌, [], ◌+◌, ◌*◌, ◌≤◌, ◌<◌, length};
 ghost use Rattle.columns.specs.Columns.{column};
 ghost use Rattle.bits.specs.Rows.{words};

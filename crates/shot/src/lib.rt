@@ -1,4 +1,6 @@
 // One shot decoded over tables at rest: docs/RULES.md, "Growth" and "Peeling".
+#![tactic(auto)]
+
 ghost use Rattle.std.specs.Prelude.{◌+◌, ◌<◌, ℕ, ◌≤◌, true, take, length, [], ◌∷◌, List, ◌≡◌};
 ghost use Rattle.shot.specs.Begin.{GrewTo};
 ghost use Rattle.columns.specs.Columns.{Wide};

@@ -1,4 +1,6 @@
 // docs/RULES.md, "Frames": a shot is checked at its 06 and decoded, and its 85 and 86 are written.
+#![tactic(auto)]
+
 ghost use Rattle.std.specs.Prelude.{◌≡◌, ◌+◌, ◌*◌, ◌≤◌, length};
 ghost use Rattle.dem.specs.Tables.{written};
 ghost use Rattle.decoder.specs.Answer.{Decodes};

@@ -1,4 +1,6 @@
 // docs/RULES.md, "Decomposition": the model in its tables, decomposed into output tables.
+#![tactic(auto)]
+
 ghost use Rattle.std.specs.Prelude.{◌≡◌, ◌+◌, ◌<◌};
 ghost use Rattle.dem.specs.Tables.{model_of, tables_zero};
 ghost use Rattle.dem.specs.Positions.{tables};

@@ -1,4 +1,6 @@
 // docs/RULES.md, "Decomposition": each larger mechanism, in order, goes one of two ways.
+#![tactic(auto)]
+
 ghost use Rattle.std.specs.Prelude.{◌≡◌, List, ◌+◌, ◌<◌, length};
 ghost use Rattle.dem.specs.Model.{Symptom, ErrorMechanism};
 ghost use Rattle.dem.specs.Tables.{Tables};

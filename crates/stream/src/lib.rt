@@ -1,4 +1,6 @@
 // docs/RULES.md, "Frames": an input that comes in blocks. A line is gathered in a buffer, answered at its line feed, and the text goes behind what the output holds.
+#![tactic(auto)]
+
 ghost use Rattle.std.specs.Prelude.{◌≡◌, [], ◌++◌, ◌+◌, ◌-◌, ◌<◌, ◌≤◌, length, take};
 ghost use Rattle.codes.specs.declared.Refusal.TheVariants.{Frame};
 ghost use Rattle.edges.specs.Tables.{slices};

@@ -1,4 +1,6 @@
 // docs/RULES.md, "Decomposition": every suggested component adds p to the last mechanism with equal lists, or to a new one.
+#![tactic(auto)]
+
 ghost use Rattle.std.specs.Prelude.{◌≡◌, List, false, ◌+◌, ◌<◌, length};
 ghost use Rattle.dem.specs.Model.{ErrorMechanism};
 ghost use Rattle.dem.specs.Tables.{Tables};

@@ -1,4 +1,6 @@
 // Whole tables: filled with one value, a list copied to a place, a column of flags set by a list of places.
+#![tactic(auto)]
+
 ghost use Rattle.std.specs.Prelude.{◌+◌, ◌<◌, ◌≤◌, ◌≡◌, false, [], ◌∷◌, ◌++◌, length, take, drop, replicate};
 ghost use Rattle.columns.specs.Columns.{column, Wide, Keeps};
 ghost use Rattle.tables.specs.Marks.{Places, Painted};

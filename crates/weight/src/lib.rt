@@ -1,4 +1,6 @@
 // The weight of an edge of probability p, ln((1 - p) / p), by a chain of operations that gives the same bits everywhere.
+#![tactic(auto)]
+
 ghost use Rattle.std.specs.Prelude.{◌≡◌, ◌<◌, true, false};
 ghost use Rattle.std.specs.Float.Ieee as Ieee;
 ghost use Rattle.weight.specs.Weight.{one, infinity, coefficient, sum_at, series, logarithm, weight_of};

@@ -1,4 +1,6 @@
 // docs/RULES.md, "Frames": an input that lies whole in memory, answered from its first byte to its end.
+#![tactic(auto)]
+
 ghost use Rattle.std.specs.Prelude.{◌≡◌, [], ◌≤◌, length};
 ghost use Rattle.edges.specs.Tables.{slices};
 ghost use Rattle.reader.specs.Columns.{columns_of};

@@ -1,12 +1,12 @@
-use Prim.Native.Nat.{ℕ, ◌-◌, ◌≤◌}
-use mathlib.Core.Path.{◌≡◌, refl, sym, ap, ◌∙◌}
+use Prim.Native.Nat.{◌-◌}
+use mathlib.Core.Path.{◌≡◌, refl, ap, ◌∙◌}
 use mathlib.Core.List.{[], ◌∷◌}
-use mathlib.Core.Bool.{Bool, true, false, not, ◌&&◌}
+use mathlib.Core.Bool.{true, false}
 use native.Mathlib.Omega.{arith}
-use lib.ListN.{length, get_or, set, take}
+use lib.ListN.{get_or, set}
 use Rattle.lists.specs.Lists.{member}
 use Rattle.columns.proofs.Columns.{column_length, keep_none, keep_then, keep_more}
-use Rattle.cells.specs.Tables.{hots, frees, active, SameFlags}
+use Rattle.cells.specs.Tables.{hots, frees, active}
 use Rattle.actives.proofs.Laws.{cool_turn, cool_start}
 use Rattle.actives.proofs.cool.Goals as goal
 
@@ -36,13 +36,12 @@ pub loop-i-smaller : goal.loop-i-smaller
 loop-i-smaller c = omega (arith, c.loop-i-test.true, c.loop-i.invariant.0)
 
 pub loop-i-preserved : goal.loop-i-preserved
-loop-i-preserved c =
-    (
-      omega (arith, c.loop-i-test.true, c.loop-i.invariant.0),
-      keep_then false (keep_then false c.loop-i.invariant.1 (keep_more false (3 ∷ 4 ∷ []) refl c.set_flag.ensures.1)) (keep_more false (3 ∷ 4 ∷ []) refl c.set_flag-in-loop-i.ensures.1),
-      rw (c.set_flag-in-loop-i.ensures.1.rest 3 refl ∙ c.set_flag.ensures.0 ∙ ap (λ z. set (hots c.loop-i.flags) z false) c.stack-r.ensures) (cool_turn (active c.args.stacks.now) c.loop-i.i (omega (arith, c.loop-i-test.true, c.loop-i.invariant.0, c.requires.0.actives)) (hots c.loop-i.flags) (hots c.args.flags.now) (omega (arith, c.requires.0.inside c.loop-i.i (omega (arith, c.loop-i-test.true, c.loop-i.invariant.0)), c.stack-r.ensures, column_length false 3 c.args.flags.now, column_length false 3 c.loop-i.flags, c.loop-i.invariant.1.long)) c.loop-i.invariant.2),
-      rw (c.set_flag-in-loop-i.ensures.0, c.set_flag.ensures.1.rest 4 refl, c.stack-r.ensures) (cool_turn (active c.args.stacks.now) c.loop-i.i (omega (arith, c.loop-i-test.true, c.loop-i.invariant.0, c.requires.0.actives)) (frees c.loop-i.flags) (frees c.args.flags.now) (omega (arith, c.requires.0.inside c.loop-i.i (omega (arith, c.loop-i-test.true, c.loop-i.invariant.0)), c.stack-r.ensures, column_length false 3 c.args.flags.now, column_length false 4 c.loop-i.flags, c.loop-i.invariant.1.long)) c.loop-i.invariant.3),
-    )
+loop-i-preserved c = (
+  omega (arith, c.loop-i-test.true, c.loop-i.invariant.0),
+  keep_then false (keep_then false c.loop-i.invariant.1 (keep_more false (3 ∷ 4 ∷ []) refl c.set_flag.ensures.1)) (keep_more false (3 ∷ 4 ∷ []) refl c.set_flag-in-loop-i.ensures.1),
+  rw (c.set_flag-in-loop-i.ensures.1.rest 3 refl ∙ c.set_flag.ensures.0 ∙ ap (λ z. set (hots c.loop-i.flags) z false) c.stack-r.ensures) (cool_turn (active c.args.stacks.now) c.loop-i.i (omega (arith, c.loop-i-test.true, c.loop-i.invariant.0, c.requires.0.actives)) (hots c.loop-i.flags) (hots c.args.flags.now) (omega (arith, c.requires.0.inside c.loop-i.i (omega (arith, c.loop-i-test.true, c.loop-i.invariant.0)), c.stack-r.ensures, column_length false 3 c.args.flags.now, column_length false 3 c.loop-i.flags, c.loop-i.invariant.1.long)) c.loop-i.invariant.2),
+  rw (c.set_flag-in-loop-i.ensures.0, c.set_flag.ensures.1.rest 4 refl, c.stack-r.ensures) (cool_turn (active c.args.stacks.now) c.loop-i.i (omega (arith, c.loop-i-test.true, c.loop-i.invariant.0, c.requires.0.actives)) (frees c.loop-i.flags) (frees c.args.flags.now) (omega (arith, c.requires.0.inside c.loop-i.i (omega (arith, c.loop-i-test.true, c.loop-i.invariant.0)), c.stack-r.ensures, column_length false 3 c.args.flags.now, column_length false 4 c.loop-i.flags, c.loop-i.invariant.1.long)) c.loop-i.invariant.3),
+)
 
 pub shape_of-flags : goal.shape_of-flags
 shape_of-flags c = c.loop-i.invariant.1.long

@@ -1,14 +1,11 @@
 -- `actives::cool` meets its contract. Assumes nothing.
 use Prim.Native.Nat.{ℕ, ◌-◌, ◌≤◌}
-use mathlib.Core.Path.{◌≡◌, refl, sym, ap, ◌∙◌}
+use mathlib.Core.Path.{◌≡◌}
 use mathlib.Core.List.{[], ◌∷◌}
-use mathlib.Core.Bool.{Bool, true, false, not, ◌&&◌}
-use native.Mathlib.Omega.{arith}
-use lib.ListN.{length, get_or, set, take}
+use mathlib.Core.Bool.{false, not, ◌&&◌}
+use lib.ListN.{get_or, take}
 use Rattle.lists.specs.Lists.{member}
-use Rattle.columns.proofs.Columns.{column_length, keep_none, keep_then, keep_more}
 use Rattle.cells.specs.Tables.{hots, frees, active, SameFlags}
-use Rattle.actives.proofs.Laws.{cool_turn, cool_start}
 use Rattle.actives.proofs.cool.Given as goal
 
 abbrev pub invariant-loop-i : goal.invariant-loop-i

@@ -1,17 +1,17 @@
-use Prim.Native.Nat.{ℕ, suc, ◌-◌, ◌+◌, ◌*◌, ◌≤◌, ◌<◌}
+use Prim.Native.Nat.{ℕ, ◌-◌, ◌+◌}
 use mathlib.Core.Path.{◌≡◌, refl, sym, ap, ap₂, ◌∙◌}
-use mathlib.Core.List.{List, [], ◌∷◌, ◌++◌, map}
-use mathlib.Core.Bool.{Bool, true, false, cond, not, ◌&&◌, ◌||◌, or-false, or-true}
+use mathlib.Core.List.{List, [], ◌∷◌, ◌++◌}
+use mathlib.Core.Bool.{true, false, not, ◌&&◌, ◌||◌, or-false, or-true}
 use native.Mathlib.Omega.{arith}
-use lib.ListN.{length, get_or, set, take}
+use lib.ListN.{get_or, take}
 use lib.Seq.{get_or-set_other, set-get_or, take-set-le}
 use Rattle.lists.specs.Lists.{member, filter, firsts}
 use native.Mathlib.Nat.{not-suc-le-zero}
 use mathlib.Core.Logic.{⊎_elim}
-use Rattle.forest.specs.Forest.{Down, labels}
+use Rattle.forest.specs.Forest.{labels}
 use Rattle.lists.proofs.Slices.{at_set}
 use Rattle.columns.proofs.Columns.{column_length, keep_then, keep_none, keep_more}
-use Rattle.cells.specs.Tables.{parents, exits, odds, hots, active, SameTree, SameFlags, SameStacks}
+use Rattle.cells.specs.Tables.{parents, exits, odds, hots, active}
 use Rattle.growth_state.proofs.Laws.{put_next}
 use Rattle.actives.specs.Actives.{is_on, onward}
 use Rattle.actives.proofs.Laws.{out_keep, out_skip, hot_turn}
@@ -89,40 +89,38 @@ loop-i-smaller-then-keep c =
     omega (arith, c.loop-i-test.true, c.loop-i.invariant.0, c.loop-i.invariant.1)
 
 pub loop-i-preserved-then-keep : goal.loop-i-preserved-then-keep
-loop-i-preserved-then-keep c =
-    (
-      omega (arith, c.loop-i-test.true, c.loop-i.invariant.0, c.loop-i.invariant.1),
-      omega (arith, c.loop-i-test.true, c.loop-i.invariant.0, c.loop-i.invariant.1),
-      c.find-r.ensures.0.down,
-      c.find-r.ensures.0.kept ∙ c.loop-i.invariant.3,
-      (keep_then 0 c.loop-i.invariant.4 c.find-r.ensures.1),
-      keep_then false c.loop-i.invariant.5 c.set_flag.ensures.1,
-      keep_then 0 c.loop-i.invariant.6 c.set_stack.ensures.1,
-      (λ j h. rw c.set_stack.ensures.0 (get_or-set_other (active c.loop-i.stacks) c.loop-i.k j c.find-r.result 0 (λ z. omega (arith, c.loop-i-test.true, c.loop-i.invariant.0, c.loop-i.invariant.1)) ∙ c.loop-i.invariant.7 j (omega (arith, c.loop-i-test.true, c.loop-i.invariant.0, c.loop-i.invariant.1)))),
-      rw c.set_stack.ensures.0 (put_next (active c.loop-i.stacks) c.loop-i.k c.find-r.result (omega (arith, c.loop-i-test.true, c.loop-i.invariant.0, c.loop-i.invariant.1, c.requires.staying.actives, column_length 0 2 c.args.stacks.now, c.loop-i.invariant.6.long, column_length 0 2 c.loop-i.stacks)) ∙ ap₂ (λ (m : List ℕ) (z : ℕ). m ++ (z ∷ [])) c.loop-i.invariant.8 (c.find-r.ensures.0.is ∙ ap (λ (m : List ℕ). get_or m c.stack-x.result 0) c.loop-i.invariant.3 ∙ ap (λ x. get_or (labels c.args.d (parents c.args.tree.now)) x 0) (c.stack-x.ensures ∙ c.loop-i.invariant.7 c.loop-i.i (omega arith))) ∙ sym (out_keep (is_on (odds c.args.flags.now) (exits c.args.tree.now)) (λ x. get_or (labels c.args.d (parents c.args.tree.now)) x 0) (active c.args.stacks.now) c.loop-i.i (omega (arith, c.requires.staying.actives)) (sym (c.goes_on-keep.ensures ∙ reads (keep_then 0 c.loop-i.invariant.4 c.find-r.ensures.1) c.loop-i.invariant.5 c.find-r.result c.flag-h.ensures c.flag-o.ensures c.pair-e.ensures ∙ ap (λ t. not t && (is_on (odds c.args.flags.now) (exits c.args.tree.now)) c.find-r.result) (c.loop-i.invariant.9 c.find-r.result c.find-r.ensures.0.inside ∙ ap (member c.find-r.result) c.loop-i.invariant.8) ∙ ap (λ z. not (member z (onward c.args.d (parents c.args.tree.now) (odds c.args.flags.now) (exits c.args.tree.now) (take c.loop-i.i (active c.args.stacks.now)))) && (is_on (odds c.args.flags.now) (exits c.args.tree.now)) z) (c.find-r.ensures.0.is ∙ ap (λ (m : List ℕ). get_or m c.stack-x.result 0) c.loop-i.invariant.3 ∙ ap (λ x. get_or (labels c.args.d (parents c.args.tree.now)) x 0) (c.stack-x.ensures ∙ c.loop-i.invariant.7 c.loop-i.i (omega arith)))) ∙ c.if-keep.true))),
-      rw (c.set_stack.ensures.0, c.set_flag.ensures.0, c.either-b.ensures ∙ ap (λ t. t || c.goes_on-keep.result) c.flag-h.ensures ∙ ap (λ t. get_or (hots c.loop-i.flags) c.find-r.result false || t) c.if-keep.true ∙ or-true (get_or (hots c.loop-i.flags) c.find-r.result false)) (hot_turn (hots c.loop-i.flags) (active c.loop-i.stacks) c.loop-i.k c.find-r.result c.args.d (omega (arith, c.loop-i-test.true, c.loop-i.invariant.0, c.loop-i.invariant.1, c.requires.staying.actives, column_length 0 2 c.args.stacks.now, c.loop-i.invariant.6.long, column_length 0 2 c.loop-i.stacks)) (omega (arith, c.requires.staying.hots, column_length false 3 c.args.flags.now, c.loop-i.invariant.5.long, c.find-r.ensures.0.inside, column_length false 3 c.loop-i.flags)) c.loop-i.invariant.9),
-      (λ j h. rw c.set_stack.ensures.0 (⊎_elim (λ z. rw z.1 c.find-r.ensures.0.inside) (λ z. rw z.1 (c.loop-i.invariant.10 j (omega (arith, z.0)))) (at_set (active c.loop-i.stacks) c.loop-i.k c.find-r.result 0 j (omega (arith, c.loop-i-test.true, c.loop-i.invariant.0, c.loop-i.invariant.1, c.requires.staying.actives, column_length 0 2 c.args.stacks.now, c.loop-i.invariant.6.long, column_length 0 2 c.loop-i.stacks))))),
-    )
+loop-i-preserved-then-keep c = (
+  omega (arith, c.loop-i-test.true, c.loop-i.invariant.0, c.loop-i.invariant.1),
+  omega (arith, c.loop-i-test.true, c.loop-i.invariant.0, c.loop-i.invariant.1),
+  c.find-r.ensures.0.down,
+  c.find-r.ensures.0.kept ∙ c.loop-i.invariant.3,
+  (keep_then 0 c.loop-i.invariant.4 c.find-r.ensures.1),
+  keep_then false c.loop-i.invariant.5 c.set_flag.ensures.1,
+  keep_then 0 c.loop-i.invariant.6 c.set_stack.ensures.1,
+  (λ j h. rw c.set_stack.ensures.0 (get_or-set_other (active c.loop-i.stacks) c.loop-i.k j c.find-r.result 0 (λ z. omega (arith, c.loop-i-test.true, c.loop-i.invariant.0, c.loop-i.invariant.1)) ∙ c.loop-i.invariant.7 j (omega (arith, c.loop-i-test.true, c.loop-i.invariant.0, c.loop-i.invariant.1)))),
+  rw c.set_stack.ensures.0 (put_next (active c.loop-i.stacks) c.loop-i.k c.find-r.result (omega (arith, c.loop-i-test.true, c.loop-i.invariant.0, c.loop-i.invariant.1, c.requires.staying.actives, column_length 0 2 c.args.stacks.now, c.loop-i.invariant.6.long, column_length 0 2 c.loop-i.stacks)) ∙ ap₂ (λ (m : List ℕ) (z : ℕ). m ++ (z ∷ [])) c.loop-i.invariant.8 (c.find-r.ensures.0.is ∙ ap (λ (m : List ℕ). get_or m c.stack-x.result 0) c.loop-i.invariant.3 ∙ ap (λ x. get_or (labels c.args.d (parents c.args.tree.now)) x 0) (c.stack-x.ensures ∙ c.loop-i.invariant.7 c.loop-i.i (omega arith))) ∙ sym (out_keep (is_on (odds c.args.flags.now) (exits c.args.tree.now)) (λ x. get_or (labels c.args.d (parents c.args.tree.now)) x 0) (active c.args.stacks.now) c.loop-i.i (omega (arith, c.requires.staying.actives)) (sym (c.goes_on-keep.ensures ∙ reads (keep_then 0 c.loop-i.invariant.4 c.find-r.ensures.1) c.loop-i.invariant.5 c.find-r.result c.flag-h.ensures c.flag-o.ensures c.pair-e.ensures ∙ ap (λ t. not t && (is_on (odds c.args.flags.now) (exits c.args.tree.now)) c.find-r.result) (c.loop-i.invariant.9 c.find-r.result c.find-r.ensures.0.inside ∙ ap (member c.find-r.result) c.loop-i.invariant.8) ∙ ap (λ z. not (member z (onward c.args.d (parents c.args.tree.now) (odds c.args.flags.now) (exits c.args.tree.now) (take c.loop-i.i (active c.args.stacks.now)))) && (is_on (odds c.args.flags.now) (exits c.args.tree.now)) z) (c.find-r.ensures.0.is ∙ ap (λ (m : List ℕ). get_or m c.stack-x.result 0) c.loop-i.invariant.3 ∙ ap (λ x. get_or (labels c.args.d (parents c.args.tree.now)) x 0) (c.stack-x.ensures ∙ c.loop-i.invariant.7 c.loop-i.i (omega arith)))) ∙ c.if-keep.true))),
+  rw (c.set_stack.ensures.0, c.set_flag.ensures.0, c.either-b.ensures ∙ ap (λ t. t || c.goes_on-keep.result) c.flag-h.ensures ∙ ap (λ t. get_or (hots c.loop-i.flags) c.find-r.result false || t) c.if-keep.true ∙ or-true (get_or (hots c.loop-i.flags) c.find-r.result false)) (hot_turn (hots c.loop-i.flags) (active c.loop-i.stacks) c.loop-i.k c.find-r.result c.args.d (omega (arith, c.loop-i-test.true, c.loop-i.invariant.0, c.loop-i.invariant.1, c.requires.staying.actives, column_length 0 2 c.args.stacks.now, c.loop-i.invariant.6.long, column_length 0 2 c.loop-i.stacks)) (omega (arith, c.requires.staying.hots, column_length false 3 c.args.flags.now, c.loop-i.invariant.5.long, c.find-r.ensures.0.inside, column_length false 3 c.loop-i.flags)) c.loop-i.invariant.9),
+  (λ j h. rw c.set_stack.ensures.0 (⊎_elim (λ z. rw z.1 c.find-r.ensures.0.inside) (λ z. rw z.1 (c.loop-i.invariant.10 j (omega (arith, z.0)))) (at_set (active c.loop-i.stacks) c.loop-i.k c.find-r.result 0 j (omega (arith, c.loop-i-test.true, c.loop-i.invariant.0, c.loop-i.invariant.1, c.requires.staying.actives, column_length 0 2 c.args.stacks.now, c.loop-i.invariant.6.long, column_length 0 2 c.loop-i.stacks))))),
+)
 
 pub loop-i-smaller : goal.loop-i-smaller
 loop-i-smaller c =
     omega (arith, c.loop-i-test.true, c.loop-i.invariant.0, c.loop-i.invariant.1)
 
 pub loop-i-preserved : goal.loop-i-preserved
-loop-i-preserved c =
-    (
-      omega (arith, c.loop-i-test.true, c.loop-i.invariant.0, c.loop-i.invariant.1),
-      omega (arith, c.loop-i-test.true, c.loop-i.invariant.0, c.loop-i.invariant.1),
-      c.find-r.ensures.0.down,
-      c.find-r.ensures.0.kept ∙ c.loop-i.invariant.3,
-      (keep_then 0 c.loop-i.invariant.4 c.find-r.ensures.1),
-      keep_then false c.loop-i.invariant.5 c.set_flag.ensures.1,
-      keep_then 0 c.loop-i.invariant.6 c.set_stack.ensures.1,
-      (λ j h. rw c.set_stack.ensures.0 (get_or-set_other (active c.loop-i.stacks) c.loop-i.k j c.find-r.result 0 (λ z. omega (arith, c.loop-i-test.true, c.loop-i.invariant.0, c.loop-i.invariant.1)) ∙ c.loop-i.invariant.7 j (omega (arith, c.loop-i-test.true, c.loop-i.invariant.0, c.loop-i.invariant.1)))),
-      rw c.set_stack.ensures.0 (take-set-le c.loop-i.k (active c.loop-i.stacks) c.loop-i.k c.find-r.result (omega (arith, c.loop-i-test.true, c.loop-i.invariant.0, c.loop-i.invariant.1)) ∙ c.loop-i.invariant.8 ∙ sym (out_skip (is_on (odds c.args.flags.now) (exits c.args.tree.now)) (λ x. get_or (labels c.args.d (parents c.args.tree.now)) x 0) (active c.args.stacks.now) c.loop-i.i (omega (arith, c.requires.staying.actives)) (sym (c.goes_on-keep.ensures ∙ reads (keep_then 0 c.loop-i.invariant.4 c.find-r.ensures.1) c.loop-i.invariant.5 c.find-r.result c.flag-h.ensures c.flag-o.ensures c.pair-e.ensures ∙ ap (λ t. not t && (is_on (odds c.args.flags.now) (exits c.args.tree.now)) c.find-r.result) (c.loop-i.invariant.9 c.find-r.result c.find-r.ensures.0.inside ∙ ap (member c.find-r.result) c.loop-i.invariant.8) ∙ ap (λ z. not (member z (onward c.args.d (parents c.args.tree.now) (odds c.args.flags.now) (exits c.args.tree.now) (take c.loop-i.i (active c.args.stacks.now)))) && (is_on (odds c.args.flags.now) (exits c.args.tree.now)) z) (c.find-r.ensures.0.is ∙ ap (λ (m : List ℕ). get_or m c.stack-x.result 0) c.loop-i.invariant.3 ∙ ap (λ x. get_or (labels c.args.d (parents c.args.tree.now)) x 0) (c.stack-x.ensures ∙ c.loop-i.invariant.7 c.loop-i.i (omega arith)))) ∙ c.if-keep.false))),
-      rw (c.set_stack.ensures.0, c.set_flag.ensures.0, c.either-b.ensures ∙ ap (λ t. t || c.goes_on-keep.result) c.flag-h.ensures ∙ ap (λ t. get_or (hots c.loop-i.flags) c.find-r.result false || t) c.if-keep.false ∙ or-false (get_or (hots c.loop-i.flags) c.find-r.result false), set-get_or (hots c.loop-i.flags) c.find-r.result false, take-set-le c.loop-i.k (active c.loop-i.stacks) c.loop-i.k c.find-r.result (omega (arith, c.loop-i-test.true, c.loop-i.invariant.0, c.loop-i.invariant.1))) c.loop-i.invariant.9,
-      (λ j h. rw (c.set_stack.ensures.0, get_or-set_other (active c.loop-i.stacks) c.loop-i.k j c.find-r.result 0 (λ z. omega (arith, c.loop-i-test.true, c.loop-i.invariant.0, c.loop-i.invariant.1))) (c.loop-i.invariant.10 j h)),
-    )
+loop-i-preserved c = (
+  omega (arith, c.loop-i-test.true, c.loop-i.invariant.0, c.loop-i.invariant.1),
+  omega (arith, c.loop-i-test.true, c.loop-i.invariant.0, c.loop-i.invariant.1),
+  c.find-r.ensures.0.down,
+  c.find-r.ensures.0.kept ∙ c.loop-i.invariant.3,
+  (keep_then 0 c.loop-i.invariant.4 c.find-r.ensures.1),
+  keep_then false c.loop-i.invariant.5 c.set_flag.ensures.1,
+  keep_then 0 c.loop-i.invariant.6 c.set_stack.ensures.1,
+  (λ j h. rw c.set_stack.ensures.0 (get_or-set_other (active c.loop-i.stacks) c.loop-i.k j c.find-r.result 0 (λ z. omega (arith, c.loop-i-test.true, c.loop-i.invariant.0, c.loop-i.invariant.1)) ∙ c.loop-i.invariant.7 j (omega (arith, c.loop-i-test.true, c.loop-i.invariant.0, c.loop-i.invariant.1)))),
+  rw c.set_stack.ensures.0 (take-set-le c.loop-i.k (active c.loop-i.stacks) c.loop-i.k c.find-r.result (omega (arith, c.loop-i-test.true, c.loop-i.invariant.0, c.loop-i.invariant.1)) ∙ c.loop-i.invariant.8 ∙ sym (out_skip (is_on (odds c.args.flags.now) (exits c.args.tree.now)) (λ x. get_or (labels c.args.d (parents c.args.tree.now)) x 0) (active c.args.stacks.now) c.loop-i.i (omega (arith, c.requires.staying.actives)) (sym (c.goes_on-keep.ensures ∙ reads (keep_then 0 c.loop-i.invariant.4 c.find-r.ensures.1) c.loop-i.invariant.5 c.find-r.result c.flag-h.ensures c.flag-o.ensures c.pair-e.ensures ∙ ap (λ t. not t && (is_on (odds c.args.flags.now) (exits c.args.tree.now)) c.find-r.result) (c.loop-i.invariant.9 c.find-r.result c.find-r.ensures.0.inside ∙ ap (member c.find-r.result) c.loop-i.invariant.8) ∙ ap (λ z. not (member z (onward c.args.d (parents c.args.tree.now) (odds c.args.flags.now) (exits c.args.tree.now) (take c.loop-i.i (active c.args.stacks.now)))) && (is_on (odds c.args.flags.now) (exits c.args.tree.now)) z) (c.find-r.ensures.0.is ∙ ap (λ (m : List ℕ). get_or m c.stack-x.result 0) c.loop-i.invariant.3 ∙ ap (λ x. get_or (labels c.args.d (parents c.args.tree.now)) x 0) (c.stack-x.ensures ∙ c.loop-i.invariant.7 c.loop-i.i (omega arith)))) ∙ c.if-keep.false))),
+  rw (c.set_stack.ensures.0, c.set_flag.ensures.0, c.either-b.ensures ∙ ap (λ t. t || c.goes_on-keep.result) c.flag-h.ensures ∙ ap (λ t. get_or (hots c.loop-i.flags) c.find-r.result false || t) c.if-keep.false ∙ or-false (get_or (hots c.loop-i.flags) c.find-r.result false), set-get_or (hots c.loop-i.flags) c.find-r.result false, take-set-le c.loop-i.k (active c.loop-i.stacks) c.loop-i.k c.find-r.result (omega (arith, c.loop-i-test.true, c.loop-i.invariant.0, c.loop-i.invariant.1))) c.loop-i.invariant.9,
+  (λ j h. rw (c.set_stack.ensures.0, get_or-set_other (active c.loop-i.stacks) c.loop-i.k j c.find-r.result 0 (λ z. omega (arith, c.loop-i-test.true, c.loop-i.invariant.0, c.loop-i.invariant.1))) (c.loop-i.invariant.10 j h)),
+)
 
 pub shape_of-tree : goal.shape_of-tree
 shape_of-tree c = c.loop-i.invariant.4.long

@@ -1,22 +1,13 @@
 -- `actives::still` meets its contract. Assumes nothing.
-use Prim.Native.Nat.{ℕ, suc, ◌-◌, ◌+◌, ◌*◌, ◌≤◌, ◌<◌}
-use mathlib.Core.Path.{◌≡◌, refl, sym, ap, ap₂, ◌∙◌}
-use mathlib.Core.List.{List, [], ◌∷◌, ◌++◌, map}
-use mathlib.Core.Bool.{Bool, true, false, cond, not, ◌&&◌, ◌||◌, or-false, or-true}
-use native.Mathlib.Omega.{arith}
-use lib.ListN.{length, get_or, set, take}
-use lib.Seq.{get_or-set_other, set-get_or, take-set-le}
-use Rattle.lists.specs.Lists.{member, filter, firsts}
-use native.Mathlib.Nat.{not-suc-le-zero}
-use mathlib.Core.Logic.{⊎_elim}
+use Prim.Native.Nat.{ℕ, ◌-◌, ◌≤◌, ◌<◌}
+use mathlib.Core.Path.{◌≡◌}
+use mathlib.Core.List.{[], ◌∷◌}
+use mathlib.Core.Bool.{false}
+use lib.ListN.{get_or, take}
+use Rattle.lists.specs.Lists.{member}
 use Rattle.forest.specs.Forest.{Down, labels}
-use Rattle.lists.proofs.Slices.{at_set}
-use Rattle.columns.proofs.Columns.{column_length, keep_then, keep_none, keep_more}
 use Rattle.cells.specs.Tables.{parents, exits, odds, hots, active, SameTree, SameFlags, SameStacks}
-use Rattle.growth_state.proofs.Laws.{put_next}
-use Rattle.actives.specs.Actives.{is_on, onward}
-use Rattle.actives.proofs.Laws.{out_keep, out_skip, hot_turn}
-use Rattle.actives.proofs.Rows.{reads}
+use Rattle.actives.specs.Actives.{onward}
 use Rattle.actives.proofs.still.Given as goal
 
 abbrev pub invariant-loop-i : goal.invariant-loop-i

@@ -1,7 +1,6 @@
 -- `adjacency::adjacency` meets its contract. Assumes nothing.
 use native.Mathlib.Omega.{arith}
 use mathlib.Core.Path.{◌∙◌}
-use borrow.Author.Rules.{rules}
 use Rattle.adjacency.proofs.adjacency.Goals as goal
 
 pub degrees-requires : goal.degrees-requires

@@ -1,6 +1,6 @@
 use native.Mathlib.Omega.{arith}
 use lib.ListN.{length-set}
-use Rattle.adjacency.proofs.Tables.{Counting, start_count, end_count, near_in, near_few, turn_single, far_in, far_few, turn_pair}
+use Rattle.adjacency.proofs.Tables.{start_count, end_count, near_in, near_few, turn_single, far_in, far_few, turn_pair}
 use Rattle.adjacency.proofs.degrees.Goals as goal
 
 pub loop-e-init : goal.loop-e-init

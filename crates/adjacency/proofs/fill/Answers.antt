@@ -1,8 +1,7 @@
 use mathlib.Core.Path.{sym, ◌∙◌}
 use native.Mathlib.Omega.{arith}
 use Rattle.columns.proofs.Columns.{column_length}
-use Rattle.adjacency.specs.Pairs.{near, away}
-use Rattle.adjacency.proofs.Tables.{Filling, start_fill, end_fill, a_in, a_room, turn_one, b_in, b_room, turn_two}
+use Rattle.adjacency.proofs.Tables.{start_fill, end_fill, a_in, a_room, turn_one, b_in, b_room, turn_two}
 use Rattle.adjacency.proofs.fill.Goals as goal
 
 pub loop-e-init : goal.loop-e-init

@@ -1,9 +1,6 @@
 -- `adjacency::fill` meets its contract. The invariant: the edges from e on are put. Assumes nothing.
-use mathlib.Core.Path.{sym, ◌∙◌}
-use native.Mathlib.Omega.{arith}
-use Rattle.columns.proofs.Columns.{column_length}
 use Rattle.adjacency.specs.Pairs.{near, away}
-use Rattle.adjacency.proofs.Tables.{Filling, start_fill, end_fill, a_in, a_room, turn_one, b_in, b_room, turn_two}
+use Rattle.adjacency.proofs.Tables.{Filling}
 use Rattle.adjacency.proofs.fill.Given as goal
 
 abbrev pub invariant-loop-e : goal.invariant-loop-e

@@ -2,7 +2,6 @@
 use mathlib.Core.Path.{refl}
 use mathlib.Core.List.{[], ◌∷◌}
 use Rattle.columns.proofs.Columns.{column_row}
-use borrow.Author.Rules.{rules}
 use Rattle.adjacency.proofs.put.Goals as goal
 
 pub returns : goal.returns

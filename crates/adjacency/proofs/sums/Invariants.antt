@@ -1,15 +1,8 @@
 -- `adjacency::sums` meets its contract. The invariant: sum has the edges of the detectors before x, whose places are past their last edges; the others are counts. Assumes nothing.
 use Prim.Native.Nat.{ℕ, suc, ◌-◌, ◌+◌, ◌≤◌, ◌<◌}
-use mathlib.Core.Path.{◌≡◌, refl, sym, ap, ◌∙◌}
-use mathlib.Core.Logic.{⊎_elim}
-use native.Mathlib.Omega.{arith}
-use native.Mathlib.Nat.{not-suc-le-zero}
-use native.Mathlib.Numerals.{add-one}
-use lib.ListN.{length, get_or, length-set}
-use lib.Seq.{get_or-set_other}
+use mathlib.Core.Path.{◌≡◌}
+use lib.ListN.{length, get_or}
 use Rattle.adjacency.specs.Adjacent.{degree, total}
-use Rattle.lists.proofs.Slices.{at_set}
-use Rattle.adjacency.proofs.Laws.{total_le, degrees_few}
 use Rattle.adjacency.proofs.sums.Given as goal
 
 abbrev pub invariant-loop-x : goal.invariant-loop-x

@@ -1,10 +1,8 @@
 -- `adjacency::tabulate` meets its contract: the adjacency stands in the parts lent.
 use Prim.Native.Nat.{◌+◌, ◌-◌}
-use native.Mathlib.Omega.{arith}
 use mathlib.Core.Path.{◌∙◌}
 use lib.ListN.{drop}
-use Rattle.adjacency.proofs.Parts.{part_length, small, sized, room, lent_back}
-use borrow.Author.Rules.{rules}
+use Rattle.adjacency.proofs.Parts.{part_length, sized, room, lent_back}
 use Rattle.adjacency.proofs.tabulate.Goals as goal
 
 pub adjacency-requires : goal.adjacency-requires

@@ -8,7 +8,6 @@ use Rattle.lent_graph.specs.Call.{lent_of}
 use Rattle.own_slices.proofs.Laws.{to_tabulate, longer}
 use Rattle.batch.specs.Batch.{handed}
 use Rattle.batch.proofs.Calls.{own_is, checks_by, refused, accepts, scratch, given_rows, decoded}
-use borrow.Author.Rules.{rules}
 use Rattle.batch.proofs.decode_batch.Goals as goal
 
 pub returns-in-Refused : goal.returns-in-Refused

@@ -1,11 +1,10 @@
 -- `batch_rows::decode_at` meets its contract: the shot in its part of the rows, and its row in its part of the output.
 use Prim.Native.Nat.{◌+◌, ◌-◌, ◌*◌}
-use mathlib.Core.Path.{◌≡◌, ap, ◌∙◌}
+use mathlib.Core.Path.{ap, ◌∙◌}
 use native.Mathlib.Omega.{arith}
 use borrow.Rule.Slice.PartMut.{same_len_mid}
 use Rattle.shot.specs.Shots.{shot_of}
 use Rattle.batch_rows.proofs.Parts.{steps_is, put_is, parts, row_wide, given}
-use borrow.Author.Rules.{rules}
 use Rattle.batch_rows.proofs.decode_at.Goals as goal
 
 pub overflow_mul-from : goal.overflow_mul-from

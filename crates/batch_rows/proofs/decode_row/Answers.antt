@@ -1,5 +1,5 @@
 -- `batch_rows::decode_row` meets its contract: the row zeroed, then a blank shot answered at once, and another decoded into it.
-use mathlib.Core.Path.{◌≡◌, sym, ap, ◌∙◌}
+use mathlib.Core.Path.{sym, ap, ◌∙◌}
 use mathlib.Core.List.{List}
 use Rattle.steps.specs.Rows.{zeros}
 use Rattle.steps.specs.Shot.{row_left}
@@ -9,7 +9,6 @@ use Rattle.shot.proofs.Decodes.{blank, blank_row}
 use Rattle.shot.proofs.Blank.{none_lit}
 use Rattle.batch_rows.proofs.Parts.{zeroed, given_zeroed}
 use Rattle.batch_rows.proofs.Turns.{places, ready_on}
-use borrow.Author.Rules.{rules}
 use Rattle.batch_rows.proofs.decode_row.Goals as goal
 
 pub returns-then-blank : goal.returns-then-blank

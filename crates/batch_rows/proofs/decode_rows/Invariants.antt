@@ -1,15 +1,11 @@
 -- `batch_rows::decode_rows` meets its contract. The invariant: the answer and the rows from the next shot on are the whole answer and all rows, and the tables are at rest.
-use Prim.Native.Nat.{ℕ, ◌+◌, ◌-◌}
-use mathlib.Core.Path.{◌≡◌, refl, ap, ◌∙◌}
-use native.Mathlib.Omega.{arith}
-use native.Mathlib.Nat.{sub-zero}
-use borrow.Author.Rules.{rules}
+use Prim.Native.Nat.{◌-◌}
+use mathlib.Core.Path.{◌≡◌}
 use lib.ListN.{length}
 use Rattle.lists.specs.Lists.{from, below}
 use Rattle.shot.specs.Shots.{graph_in}
 use Rattle.batch_rows.specs.Ready.{Ready}
 use Rattle.batch_rows.specs.Rows.{check_shots_of, rows_of}
-use Rattle.batch_rows.proofs.Turns.{end_answer, end_rows, stops, goes_on, given_row}
 use Rattle.batch_rows.proofs.decode_rows.Given as goal
 
 abbrev pub invariant-loop-next : goal.invariant-loop-next

@@ -5,7 +5,6 @@ use native.Mathlib.Omega.{arith}
 use borrow.Rule.Slice.PartMut.{same_len_mid}
 use Rattle.shot.proofs.Longer.{few_part, small_of, tables}
 use Rattle.batch_rows.proofs.Starts.{parted}
-use borrow.Author.Rules.{rules}
 use Rattle.batch_rows.proofs.reset_and_decode_rows.Goals as goal
 
 pub reset-requires : goal.reset-requires

@@ -6,7 +6,6 @@ use lib.Bits.{bit_xor}
 use lib.ListN.{get_or, set}
 use Rattle.bits.specs.Rows.{flip_bit}
 use Rattle.bits.proofs.Word.{shl_one}
-use borrow.Author.Rules.{rules}
 use Rattle.bits.proofs.flip.Goals as goal
 
 pub returns : goal.returns

@@ -2,12 +2,10 @@ use Prim.Native.Nat.{◌-◌}
 use mathlib.Core.Path.{refl}
 use mathlib.Core.List.{[], ◌∷◌}
 use native.Mathlib.Omega.{arith}
-use lib.ListN.{length}
-use borrow.Author.Rules.{rules}
-use Rattle.columns.specs.Columns.{column, Keeps}
+use Rattle.columns.specs.Columns.{column}
 use Rattle.columns.proofs.Columns.{keep_length, keep_none, keep_more, keep_then}
 use Rattle.bits.proofs.Word.{words_tight}
-use Rattle.bits.proofs.Listed.{Listing, listing_start, listing_room, listing_turn, listing_end}
+use Rattle.bits.proofs.Listed.{listing_start, listing_room, listing_turn, listing_end}
 use Rattle.bits.proofs.list_set_bits.Goals as goal
 
 pub loop-i-init : goal.loop-i-init

@@ -1,14 +1,9 @@
 -- `bits::list_set_bits` meets its contract. The invariant: writing the bits of the words from i on gives the answer. Assumes nothing.
 use Prim.Native.Nat.{◌-◌}
-use mathlib.Core.Path.{refl}
 use mathlib.Core.List.{[], ◌∷◌}
-use native.Mathlib.Omega.{arith}
 use lib.ListN.{length}
-use borrow.Author.Rules.{rules}
 use Rattle.columns.specs.Columns.{column, Keeps}
-use Rattle.columns.proofs.Columns.{keep_length, keep_none, keep_more, keep_then}
-use Rattle.bits.proofs.Word.{words_tight}
-use Rattle.bits.proofs.Listed.{Listing, listing_start, listing_room, listing_turn, listing_end}
+use Rattle.bits.proofs.Listed.{Listing}
 use Rattle.bits.proofs.list_set_bits.Given as goal
 
 abbrev pub invariant-loop-i : goal.invariant-loop-i

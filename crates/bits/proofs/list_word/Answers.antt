@@ -4,9 +4,9 @@ use mathlib.Core.List.{[], ◌∷◌}
 use native.Mathlib.Nat.{pos_of_ne-zero}
 use native.Mathlib.Omega.{arith}
 use lib.Bits.{and_le_r}
-use Rattle.columns.specs.Columns.{column, Keeps}
+use Rattle.columns.specs.Columns.{column}
 use Rattle.columns.proofs.Columns.{column_length, keep_none, keep_more, keep_then}
-use Rattle.bits.proofs.Lowest.{WordListing, word_room, word_turn, word_end, trailing_lt}
+use Rattle.bits.proofs.Lowest.{word_room, word_turn, word_end, trailing_lt}
 use Rattle.bits.proofs.list_word.Goals as goal
 
 pub loop-left-init : goal.loop-left-init

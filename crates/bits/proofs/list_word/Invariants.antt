@@ -1,13 +1,8 @@
 -- `bits::list_word` meets its contract. The invariant: writing the bits of the word that is left gives the answer. Assumes nothing.
 use Prim.Native.Nat.{◌-◌}
-use mathlib.Core.Path.{refl}
 use mathlib.Core.List.{[], ◌∷◌}
-use native.Mathlib.Nat.{pos_of_ne-zero}
-use native.Mathlib.Omega.{arith}
-use lib.Bits.{and_le_r}
 use Rattle.columns.specs.Columns.{column, Keeps}
-use Rattle.columns.proofs.Columns.{column_length, keep_none, keep_more, keep_then}
-use Rattle.bits.proofs.Lowest.{WordListing, word_room, word_turn, word_end, trailing_lt}
+use Rattle.bits.proofs.Lowest.{WordListing}
 use Rattle.bits.proofs.list_word.Given as goal
 
 abbrev pub invariant-loop-left : goal.invariant-loop-left

@@ -6,7 +6,6 @@ use lib.Bits.{bit_or}
 use lib.ListN.{get_or, set}
 use Rattle.bits.specs.Rows.{set_bit}
 use Rattle.bits.proofs.Word.{shl_one}
-use borrow.Author.Rules.{rules}
 use Rattle.bits.proofs.set.Goals as goal
 
 pub returns : goal.returns

@@ -1,7 +1,6 @@
 -- `bits::words` meets its contract: a word more where bits are left over.
 use native.Mathlib.Omega.{arith}
 use Rattle.bits.specs.Rows.{words}
-use borrow.Author.Rules.{rules}
 use Rattle.bits.proofs.words.Goals as goal
 
 pub returns-then-n-eq0 : goal.returns-then-n-eq0

@@ -1,10 +1,8 @@
-use Prim.Native.Nat.{◌≤◌, ◌-◌, min}
-use mathlib.Core.Path.{◌≡◌, refl, sym, ◌∙◌}
+use Prim.Native.Nat.{◌-◌}
+use mathlib.Core.Path.{refl, sym, ◌∙◌}
 use native.Mathlib.Omega.{arith}
-use lib.ListN.{length, length-set}
-use borrow.Author.Rules.{rules}
-use Rattle.bits.specs.Rows.{xor_row}
-use Rattle.bits.proofs.Rows.{xor_from, xor_turn, xor_end}
+use lib.ListN.{length-set}
+use Rattle.bits.proofs.Rows.{xor_turn, xor_end}
 use Rattle.bits.proofs.xor_into.Goals as goal
 
 pub loop-i-init : goal.loop-i-init

@@ -1,11 +1,9 @@
 -- `bits::xor_into` meets its contract. The invariant: XOR of the words from i on gives the answer.
-use Prim.Native.Nat.{◌≤◌, ◌-◌, min}
-use mathlib.Core.Path.{◌≡◌, refl, sym, ◌∙◌}
-use native.Mathlib.Omega.{arith}
-use lib.ListN.{length, length-set}
-use borrow.Author.Rules.{rules}
+use Prim.Native.Nat.{◌-◌, min}
+use mathlib.Core.Path.{◌≡◌}
+use lib.ListN.{length}
 use Rattle.bits.specs.Rows.{xor_row}
-use Rattle.bits.proofs.Rows.{xor_from, xor_turn, xor_end}
+use Rattle.bits.proofs.Rows.{xor_from}
 use Rattle.bits.proofs.xor_into.Given as goal
 
 abbrev pub invariant-loop-i : goal.invariant-loop-i

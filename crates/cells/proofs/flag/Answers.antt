@@ -1,8 +1,6 @@
 use mathlib.Core.Bool.{false}
-use native.Mathlib.Omega.{arith}
 use mathlib.Core.Path.{sym}
 use Rattle.columns.proofs.Columns.{column_at}
-use borrow.Author.Rules.{rules}
 use Rattle.cells.proofs.flag.Goals as goal
 
 pub returns : goal.returns

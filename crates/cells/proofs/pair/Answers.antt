@@ -1,7 +1,5 @@
-use native.Mathlib.Omega.{arith}
 use mathlib.Core.Path.{sym}
 use Rattle.columns.proofs.Columns.{column_at}
-use borrow.Author.Rules.{rules}
 use Rattle.cells.proofs.pair.Goals as goal
 
 pub returns : goal.returns

@@ -1,7 +1,5 @@
 use mathlib.Core.Bool.{false}
-use native.Mathlib.Omega.{arith}
 use Rattle.columns.proofs.Columns.{put_same, keep_put}
-use borrow.Author.Rules.{rules}
 use Rattle.cells.proofs.set_flag.Goals as goal
 
 pub shape_of-s : goal.shape_of-s

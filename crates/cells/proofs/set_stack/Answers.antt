@@ -1,6 +1,4 @@
-use native.Mathlib.Omega.{arith}
 use Rattle.columns.proofs.Columns.{put_same, keep_put}
-use borrow.Author.Rules.{rules}
 use Rattle.cells.proofs.set_stack.Goals as goal
 
 pub shape_of-s : goal.shape_of-s

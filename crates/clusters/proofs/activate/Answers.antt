@@ -1,11 +1,10 @@
 -- `clusters::activate` meets its contract. Assumes nothing.
-use mathlib.Core.Path.{◌≡◌, refl, sym, ◌∙◌}
+use mathlib.Core.Path.{refl, sym, ◌∙◌}
 use mathlib.Core.Bool.{false}
 use mathlib.Core.List.{[], ◌∷◌}
 use native.Mathlib.Omega.{arith}
 use Rattle.columns.proofs.Columns.{column_length, keep_none, keep_more}
 use Rattle.clusters.proofs.Laws.{activate_old, activate_new, activate_room}
-use borrow.Author.Rules.{rules}
 use Rattle.clusters.proofs.activate.Goals as goal
 
 pub flag-k-requires : goal.flag-k-requires

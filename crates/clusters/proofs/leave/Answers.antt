@@ -1,13 +1,9 @@
 -- `clusters::leave` meets its contract. Assumes nothing.
-use Prim.Native.Nat.{min}
-use mathlib.Core.Path.{◌≡◌, refl, sym, ap, ◌∙◌}
-use mathlib.Core.List.{List, [], ◌∷◌}
+use mathlib.Core.Path.{refl, ◌∙◌}
+use mathlib.Core.List.{[], ◌∷◌}
 use native.Mathlib.Omega.{arith}
-use lib.ListN.{get_or, set}
 use Rattle.columns.proofs.Columns.{column_length, keep_then, keep_more}
-use Rattle.forest.specs.Forest.{labels}
-use Rattle.cells.specs.Tables.{parents, exits}
-use borrow.Author.Rules.{rules}
+use Rattle.cells.specs.Tables.{exits}
 use Rattle.clusters.proofs.leave.Goals as goal
 
 pub find-r-requires : goal.find-r-requires
@@ -32,12 +28,11 @@ pub shape_of-tree : goal.shape_of-tree
 shape_of-tree c = (keep_then 0 (keep_more 0 (0 ∷ 1 ∷ []) refl c.find-r.ensures.1) (keep_more 0 (0 ∷ 1 ∷ []) refl c.set_pair.ensures.1)).long
 
 pub returns : goal.returns
-returns c =
-    (
-      rw (c.set_pair.ensures.1.rest 0 refl) (record {
-        down = c.find-r.ensures.0.down;
-        labels_are = c.find-r.ensures.0.kept;
-        exit_is = c.set_pair.ensures.0 ∙ rw (c.lower-y.ensures, c.pair-x.ensures, c.find-r.ensures.1.rest 1 refl, ← c.find-r.ensures.0.is);
-      }),
-      (keep_then 0 (keep_more 0 (0 ∷ 1 ∷ []) refl c.find-r.ensures.1) (keep_more 0 (0 ∷ 1 ∷ []) refl c.set_pair.ensures.1)),
-    )
+returns c = (
+  rw (c.set_pair.ensures.1.rest 0 refl) (record {
+    down = c.find-r.ensures.0.down;
+    labels_are = c.find-r.ensures.0.kept;
+    exit_is = c.set_pair.ensures.0 ∙ rw (c.lower-y.ensures, c.pair-x.ensures, c.find-r.ensures.1.rest 1 refl, ← c.find-r.ensures.0.is);
+  }),
+  (keep_then 0 (keep_more 0 (0 ∷ 1 ∷ []) refl c.find-r.ensures.1) (keep_more 0 (0 ∷ 1 ∷ []) refl c.set_pair.ensures.1)),
+)

@@ -1,5 +1,5 @@
 -- `clusters::link` meets its contract. Assumes nothing.
-use mathlib.Core.Path.{◌≡◌, refl, sym, ap, ap₂, ◌∙◌}
+use mathlib.Core.Path.{refl, ap, ap₂, ◌∙◌}
 use mathlib.Core.Bool.{xor}
 use mathlib.Core.List.{List, [], ◌∷◌}
 use Prim.Native.Nat.{ℕ, min}
@@ -7,7 +7,6 @@ use native.Mathlib.Omega.{arith}
 use lib.ListN.{set, get_or}
 use Rattle.columns.proofs.Columns.{keep_then, keep_more}
 use Rattle.cells.specs.Tables.{odds, exits}
-use borrow.Author.Rules.{rules}
 use Rattle.clusters.proofs.link.Goals as goal
 
 pub set_pair-requires : goal.set_pair-requires
@@ -45,13 +44,12 @@ pub shape_of-flags : goal.shape_of-flags
 shape_of-flags c = c.set_flag.ensures.1.long
 
 pub returns : goal.returns
-returns c =
-    (
-      record {
-        parents = c.set_pair-2.ensures.1.rest 0 refl ∙ c.set_pair.ensures.0;
-        odds = c.set_flag.ensures.0 ∙ ap (set (odds c.args.flags.now) c.args.lo) (c.differ-o.ensures ∙ ap₂ xor c.flag-a.ensures c.flag-b.ensures);
-        exits = c.set_pair-2.ensures.0 ∙ ap₂ (λ (l : List ℕ) (z : ℕ). set l c.args.lo z) (c.set_pair.ensures.1.rest 1 refl) (c.lower-x.ensures ∙ ap₂ min (c.pair-p.ensures ∙ ap (λ (l : List ℕ). get_or l c.args.lo 0) (c.set_pair.ensures.1.rest 1 refl)) (c.pair-q.ensures ∙ ap (λ (l : List ℕ). get_or l c.args.hi 0) (c.set_pair.ensures.1.rest 1 refl)));
-      },
-      (keep_then 0 (keep_more 0 (0 ∷ 1 ∷ []) refl c.set_pair.ensures.1) (keep_more 0 (0 ∷ 1 ∷ []) refl c.set_pair-2.ensures.1)),
-      c.set_flag.ensures.1,
-    )
+returns c = (
+  record {
+    parents = c.set_pair-2.ensures.1.rest 0 refl ∙ c.set_pair.ensures.0;
+    odds = c.set_flag.ensures.0 ∙ ap (set (odds c.args.flags.now) c.args.lo) (c.differ-o.ensures ∙ ap₂ xor c.flag-a.ensures c.flag-b.ensures);
+    exits = c.set_pair-2.ensures.0 ∙ ap₂ (λ (l : List ℕ) (z : ℕ). set l c.args.lo z) (c.set_pair.ensures.1.rest 1 refl) (c.lower-x.ensures ∙ ap₂ min (c.pair-p.ensures ∙ ap (λ (l : List ℕ). get_or l c.args.lo 0) (c.set_pair.ensures.1.rest 1 refl)) (c.pair-q.ensures ∙ ap (λ (l : List ℕ). get_or l c.args.hi 0) (c.set_pair.ensures.1.rest 1 refl)));
+  },
+  (keep_then 0 (keep_more 0 (0 ∷ 1 ∷ []) refl c.set_pair.ensures.1) (keep_more 0 (0 ∷ 1 ∷ []) refl c.set_pair-2.ensures.1)),
+  c.set_flag.ensures.1,
+)

@@ -1,17 +1,16 @@
-use Prim.Native.Nat.{ℕ, ◌-◌, ◌+◌, ◌≤◌, ◌<◌}
+use Prim.Native.Nat.{ℕ, ◌-◌, ◌+◌}
 use mathlib.Core.Path.{◌≡◌, refl, sym, ap, ◌∙◌}
 use mathlib.Core.Bool.{Bool, true, false}
 use native.Mathlib.Omega.{arith}
-use lib.ListN.{length, get_or, set, take, length-set}
+use lib.ListN.{length, set, length-set}
 use lib.Seq.{slice}
 use mathlib.Core.List.{List, [], ◌∷◌}
-use lib.Ieee.{Float}
 use Rattle.forest.specs.Forest.{labels}
 use Rattle.steps.specs.Growth.{merge_all}
 use Rattle.adjacency.specs.Adjacent.{weighted}
 use Rattle.columns.proofs.Columns.{column_length, keep_none, keep_then, keep_more, keep_length}
-use Rattle.cells.specs.Tables.{parents, exits, odds, knowns, seen, fresh, SameTree, SameFlags, SameStacks}
-use Rattle.clusters.specs.Joins.{Ready, Covers, KeepsIn, all_set, Merged}
+use Rattle.cells.specs.Tables.{parents, exits, odds, fresh}
+use Rattle.clusters.specs.Joins.{all_set}
 use Rattle.clusters.proofs.Laws.{set_turn, merge_turn, set_end, merge_end}
 use Rattle.clusters.proofs.merge.Goals as goal
 
@@ -37,19 +36,18 @@ pub loop-i-smaller : goal.loop-i-smaller
 loop-i-smaller c = omega (arith, c.loop-i-test.true, c.loop-i.invariant.0)
 
 pub loop-i-preserved : goal.loop-i-preserved
-loop-i-preserved c =
-    (
-      omega (arith, c.loop-i-test.true, c.loop-i.invariant.0),
-      record { ends = c.loop-i.invariant.1.ends; sats = ap length c.saturate-m.ensures.0.sat_is ∙ simp length-set c.loop-i.invariant.1.sats; lists = c.saturate-m.ensures.0.lists; down = c.saturate-m.ensures.0.down; odds = keep_length false c.saturate-m.ensures.2 2 ∙ c.loop-i.invariant.1.odds; exits = keep_length 0 c.saturate-m.ensures.1 1 ∙ c.loop-i.invariant.1.exits },
-      ap (λ (l : List Bool). all_set l (slice (c.loop-i.i + 1) c.args.k (fresh c.args.links.now))) (c.saturate-m.ensures.0.sat_is ∙ ap (λ x. set c.loop-i.sat x true) c.link-e.ensures) ∙ sym (set_turn (fresh c.args.links.now) c.loop-i.i c.args.k (omega (arith, c.loop-i-test.true, c.loop-i.invariant.0)) c.requires.merging.freshes c.loop-i.sat) ∙ c.loop-i.invariant.2,
-      (λ ws lit. (rw c.link-e.ensures at (ap (λ (l : List ℕ). merge_all (weighted c.args.d c.args.edge_u.now c.args.edge_v.now ws) lit l (slice (c.loop-i.i + 1) c.args.k (fresh c.args.links.now))) (c.saturate-m.ensures.0.labels_are ws lit))) ∙ sym (merge_turn (fresh c.args.links.now) c.loop-i.i c.args.k (omega (arith, c.loop-i-test.true, c.loop-i.invariant.0)) c.requires.merging.freshes (weighted c.args.d c.args.edge_u.now c.args.edge_v.now ws) lit (labels c.args.d (parents c.loop-i.tree))) ∙ c.loop-i.invariant.3 ws lit),
-      (λ y t. c.saturate-m.ensures.0.more y (c.loop-i.invariant.4 y t)),
-      (λ cv. c.saturate-m.ensures.0.covers (c.loop-i.invariant.5 cv)),
-      (λ ws ok few lit k. c.saturate-m.ensures.0.keeps ws ok few lit (c.loop-i.invariant.6 ws ok few lit k)),
-      keep_then 0 c.loop-i.invariant.7 c.saturate-m.ensures.1,
-      keep_then false c.loop-i.invariant.8 c.saturate-m.ensures.2,
-      keep_then 0 c.loop-i.invariant.9 c.saturate-m.ensures.3,
-    )
+loop-i-preserved c = (
+  omega (arith, c.loop-i-test.true, c.loop-i.invariant.0),
+  record { ends = c.loop-i.invariant.1.ends; sats = ap length c.saturate-m.ensures.0.sat_is ∙ simp length-set c.loop-i.invariant.1.sats; lists = c.saturate-m.ensures.0.lists; down = c.saturate-m.ensures.0.down; odds = keep_length false c.saturate-m.ensures.2 2 ∙ c.loop-i.invariant.1.odds; exits = keep_length 0 c.saturate-m.ensures.1 1 ∙ c.loop-i.invariant.1.exits },
+  ap (λ (l : List Bool). all_set l (slice (c.loop-i.i + 1) c.args.k (fresh c.args.links.now))) (c.saturate-m.ensures.0.sat_is ∙ ap (λ x. set c.loop-i.sat x true) c.link-e.ensures) ∙ sym (set_turn (fresh c.args.links.now) c.loop-i.i c.args.k (omega (arith, c.loop-i-test.true, c.loop-i.invariant.0)) c.requires.merging.freshes c.loop-i.sat) ∙ c.loop-i.invariant.2,
+  (λ ws lit. (rw c.link-e.ensures at (ap (λ (l : List ℕ). merge_all (weighted c.args.d c.args.edge_u.now c.args.edge_v.now ws) lit l (slice (c.loop-i.i + 1) c.args.k (fresh c.args.links.now))) (c.saturate-m.ensures.0.labels_are ws lit))) ∙ sym (merge_turn (fresh c.args.links.now) c.loop-i.i c.args.k (omega (arith, c.loop-i-test.true, c.loop-i.invariant.0)) c.requires.merging.freshes (weighted c.args.d c.args.edge_u.now c.args.edge_v.now ws) lit (labels c.args.d (parents c.loop-i.tree))) ∙ c.loop-i.invariant.3 ws lit),
+  (λ y t. c.saturate-m.ensures.0.more y (c.loop-i.invariant.4 y t)),
+  (λ cv. c.saturate-m.ensures.0.covers (c.loop-i.invariant.5 cv)),
+  (λ ws ok few lit k. c.saturate-m.ensures.0.keeps ws ok few lit (c.loop-i.invariant.6 ws ok few lit k)),
+  keep_then 0 c.loop-i.invariant.7 c.saturate-m.ensures.1,
+  keep_then false c.loop-i.invariant.8 c.saturate-m.ensures.2,
+  keep_then 0 c.loop-i.invariant.9 c.saturate-m.ensures.3,
+)
 
 pub shape_of-tree : goal.shape_of-tree
 shape_of-tree c = c.loop-i.invariant.7.long

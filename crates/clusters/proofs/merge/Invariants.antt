@@ -1,19 +1,16 @@
 -- `clusters::merge` meets its contract. Assumes nothing.
-use Prim.Native.Nat.{ℕ, ◌-◌, ◌+◌, ◌≤◌, ◌<◌}
-use mathlib.Core.Path.{◌≡◌, refl, sym, ap, ◌∙◌}
+use Prim.Native.Nat.{ℕ, ◌-◌, ◌≤◌}
+use mathlib.Core.Path.{◌≡◌}
 use mathlib.Core.Bool.{Bool, true, false}
-use native.Mathlib.Omega.{arith}
-use lib.ListN.{length, get_or, set, take, length-set}
+use lib.ListN.{get_or, take}
 use lib.Seq.{slice}
 use mathlib.Core.List.{List, [], ◌∷◌}
 use lib.Ieee.{Float}
 use Rattle.forest.specs.Forest.{labels}
 use Rattle.steps.specs.Growth.{merge_all}
 use Rattle.adjacency.specs.Adjacent.{weighted}
-use Rattle.columns.proofs.Columns.{column_length, keep_none, keep_then, keep_more, keep_length}
 use Rattle.cells.specs.Tables.{parents, exits, odds, knowns, seen, fresh, SameTree, SameFlags, SameStacks}
-use Rattle.clusters.specs.Joins.{Ready, Covers, KeepsIn, all_set, Merged}
-use Rattle.clusters.proofs.Laws.{set_turn, merge_turn, set_end, merge_end}
+use Rattle.clusters.specs.Joins.{Ready, Covers, KeepsIn, all_set}
 use Rattle.clusters.proofs.merge.Given as goal
 
 abbrev pub invariant-loop-i : goal.invariant-loop-i

@@ -1,14 +1,12 @@
 -- `clusters::saturate` meets its contract. Assumes nothing.
-use mathlib.Core.Path.{◌≡◌, refl, sym, ap, ◌∙◌}
+use mathlib.Core.Path.{refl, ◌∙◌}
 use mathlib.Core.Bool.{false, true}
 use mathlib.Core.List.{[], ◌∷◌}
 use native.Mathlib.Omega.{arith}
-use lib.ListN.{length-set}
-use Rattle.columns.proofs.Columns.{column_length, keep_none, keep_then, keep_more, keep_length}
+use Rattle.columns.proofs.Columns.{keep_then, keep_more, keep_length}
 use Rattle.cells.specs.Tables.{parents, exits, odds, knowns}
 use Rattle.adjacency.proofs.Laws.{u_in, v_in}
 use Rattle.clusters.proofs.Laws.{saturate_single, saturate_pair}
-use borrow.Author.Rules.{rules}
 use Rattle.clusters.proofs.saturate.Goals as goal
 
 pub activate-m-requires : goal.activate-m-requires

@@ -1,12 +1,11 @@
 -- `clusters::union` meets its contract. Assumes nothing.
-use mathlib.Core.Path.{◌≡◌, refl, sym, ap, ◌∙◌}
+use mathlib.Core.Path.{refl, ◌∙◌}
 use mathlib.Core.Bool.{false}
 use mathlib.Core.List.{[], ◌∷◌}
 use native.Mathlib.Omega.{arith}
 use Rattle.columns.proofs.Columns.{column_length, keep_none, keep_then, keep_more}
 use Rattle.cells.specs.Tables.{odds, exits}
 use Rattle.clusters.proofs.Laws.{joined_lt, joined_gt, joined_eq}
-use borrow.Author.Rules.{rules}
 use Rattle.clusters.proofs.union.Goals as goal
 
 pub find-x-requires : goal.find-x-requires

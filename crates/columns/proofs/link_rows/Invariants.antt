@@ -1,11 +1,7 @@
 use Prim.Native.Nat.{ℕ, ◌≤◌, ◌<◌, ◌-◌}
 use mathlib.Core.Path.{◌≡◌}
 use mathlib.Core.List.{[]}
-use native.Mathlib.Omega.{arith}
-use native.Mathlib.Nat.{not-suc-le-zero}
-use borrow.Author.Count.{below_more}
 use lib.ListN.{length, get_or}
-use Rattle.columns.specs.Columns.{Wide}
 use Rattle.columns.proofs.link_rows.Given as goal
 
 abbrev pub invariant-loop-d : goal.invariant-loop-d

@@ -1,14 +1,14 @@
-use Prim.Native.Nat.{◌-◌, ◌≤◌}
+use Prim.Native.Nat.{◌-◌}
 use mathlib.Core.Path.{◌≡◌, refl, ◌∙◌}
 use mathlib.Core.List.{[], ◌∷◌}
 use mathlib.Core.Bool.{false}
 use native.Mathlib.Omega.{arith}
-use lib.ListN.{get_or, take}
-use lib.Seq.{slice, slice_empty}
+use lib.ListN.{get_or}
+use lib.Seq.{slice_empty}
 use Rattle.growth_state.proofs.Laws.{slice_next}
 use Rattle.columns.proofs.Columns.{column_length, keep_none, keep_then, keep_more, keep_length}
-use Rattle.cells.specs.Tables.{parents, hots, frees, front, touched, cnt, SameFlags, SameLinks}
-use Rattle.counting.proofs.Laws.{Gathering, taken_room, gathering_turn, gathered}
+use Rattle.cells.specs.Tables.{hots, frees, front}
+use Rattle.counting.proofs.Laws.{taken_room, gathering_turn, gathered}
 use Rattle.counting.proofs.count.Goals as goal
 
 pub loop-i-init : goal.loop-i-init

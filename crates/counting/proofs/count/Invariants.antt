@@ -1,15 +1,10 @@
 -- `counting::count` meets its contract. The invariant: what is listed, and what is to be listed at the detectors from i on, is the answer.
 use Prim.Native.Nat.{◌-◌, ◌≤◌}
-use mathlib.Core.Path.{◌≡◌, refl, ◌∙◌}
 use mathlib.Core.List.{[], ◌∷◌}
-use mathlib.Core.Bool.{false}
-use native.Mathlib.Omega.{arith}
-use lib.ListN.{get_or, take}
-use lib.Seq.{slice, slice_empty}
-use Rattle.growth_state.proofs.Laws.{slice_next}
-use Rattle.columns.proofs.Columns.{column_length, keep_none, keep_then, keep_more, keep_length}
+use lib.ListN.{take}
+use lib.Seq.{slice}
 use Rattle.cells.specs.Tables.{parents, hots, frees, front, touched, cnt, SameFlags, SameLinks}
-use Rattle.counting.proofs.Laws.{Gathering, taken_room, gathering_turn, gathered}
+use Rattle.counting.proofs.Laws.{Gathering}
 use Rattle.counting.proofs.count.Given as goal
 
 abbrev pub invariant-loop-i : goal.invariant-loop-i

@@ -1,18 +1,16 @@
-use Prim.Native.Nat.{ℕ, ◌-◌, ◌+◌, ◌≤◌}
-use mathlib.Core.Path.{◌≡◌, refl, sym, ap, ◌∙◌}
-use mathlib.Core.List.{List, [], ◌∷◌}
-use mathlib.Core.Bool.{Bool, true, false, not, ◌&&◌, ◌||◌}
+use Prim.Native.Nat.{◌-◌, ◌+◌}
+use mathlib.Core.Path.{◌≡◌, refl, ap, ◌∙◌}
+use mathlib.Core.List.{[], ◌∷◌}
+use mathlib.Core.Bool.{true, false}
 use native.Mathlib.Omega.{arith}
-use lib.Dec.{eqb, ltb}
 use lib.ListN.{get_or, set}
-use lib.Seq.{slice, slice_empty}
-use mir.Val.{bool_byte}
+use lib.Seq.{slice_empty}
 use Rattle.adjacency.proofs.Stars.{adj_slice, adj_rising, adj_ends}
 use Rattle.growth_state.proofs.Laws.{slice_next, byte_low}
 use Rattle.columns.proofs.Columns.{column_length, keep_none, keep_then, keep_more}
-use Rattle.cells.specs.Tables.{parents, hots, frees, touched, cnt, SameLinks}
+use Rattle.cells.specs.Tables.{hots, frees}
 use Rattle.adjacency.specs.Pairs.{near}
-use Rattle.counting.proofs.Laws.{Listing, listing_open, listing_skip, counted, edge_in, far_is, far_le, near_in}
+use Rattle.counting.proofs.Laws.{listing_open, listing_skip, counted, edge_in, far_is, far_le, near_in}
 use Rattle.counting.proofs.count_at.Goals as goal
 
 pub pair-r-requires : goal.pair-r-requires

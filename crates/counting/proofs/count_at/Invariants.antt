@@ -1,19 +1,11 @@
 -- `counting::count_at` meets its contract. The invariant: what is listed, and what is to be listed of the edges from place k on, is the answer.
-use Prim.Native.Nat.{ℕ, ◌-◌, ◌+◌, ◌≤◌}
-use mathlib.Core.Path.{◌≡◌, refl, sym, ap, ◌∙◌}
-use mathlib.Core.List.{List, [], ◌∷◌}
-use mathlib.Core.Bool.{Bool, true, false, not, ◌&&◌, ◌||◌}
-use native.Mathlib.Omega.{arith}
-use lib.Dec.{eqb, ltb}
-use lib.ListN.{get_or, set}
-use lib.Seq.{slice, slice_empty}
-use mir.Val.{bool_byte}
-use Rattle.adjacency.proofs.Stars.{adj_slice, adj_rising, adj_ends}
-use Rattle.growth_state.proofs.Laws.{slice_next, byte_low}
-use Rattle.columns.proofs.Columns.{column_length, keep_none, keep_then, keep_more}
-use Rattle.cells.specs.Tables.{parents, hots, frees, touched, cnt, SameLinks}
+use Prim.Native.Nat.{◌-◌, ◌≤◌}
+use mathlib.Core.List.{[], ◌∷◌}
+use lib.ListN.{get_or}
+use lib.Seq.{slice}
+use Rattle.cells.specs.Tables.{parents, hots, touched, cnt, SameLinks}
 use Rattle.adjacency.specs.Pairs.{near}
-use Rattle.counting.proofs.Laws.{Listing, listing_open, listing_skip, counted, edge_in, far_is, far_le, near_in}
+use Rattle.counting.proofs.Laws.{Listing}
 use Rattle.counting.proofs.count_at.Given as goal
 
 abbrev pub invariant-loop-k : goal.invariant-loop-k

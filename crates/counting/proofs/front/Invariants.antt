@@ -1,20 +1,12 @@
 -- `counting::front` meets its contract. The invariant: it holds of the detectors seen before i.
 use Prim.Native.Nat.{ℕ, ◌-◌, ◌≤◌, ◌<◌}
-use mathlib.Core.Path.{◌≡◌, refl, sym, ap, ◌∙◌}
-use mathlib.Core.List.{List, [], ◌∷◌}
-use mathlib.Core.Bool.{false}
-use native.Mathlib.Omega.{arith}
-use lib.Dec.{eqb}
-use lib.ListN.{length, get_or, set, take}
-use borrow.Author.Tests.{eqb-true, eqb-false}
+use mathlib.Core.Path.{◌≡◌}
+use mathlib.Core.List.{[], ◌∷◌}
+use lib.ListN.{get_or, take}
 use Rattle.lists.specs.Lists.{filter}
-use Rattle.lists.proofs.Truth.{case-of}
-use Rattle.growth_state.proofs.Laws.{member_take}
 use Rattle.forest.specs.Forest.{Down, Flat, labels}
-use Rattle.columns.proofs.Columns.{column_length, keep_none, keep_then, keep_more}
 use Rattle.cells.specs.Tables.{parents, hots, seen, front, SameTree, SameStacks}
 use Rattle.counting.specs.Counting.{warm}
-use Rattle.counting.proofs.Laws.{front_hot, front_cold}
 use Rattle.counting.proofs.front.Given as goal
 
 abbrev pub invariant-loop-i : goal.invariant-loop-i

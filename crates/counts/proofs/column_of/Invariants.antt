@@ -1,12 +1,8 @@
 -- `counts::column_of`: the first d entries are the column's.
-use Prim.Native.Nat.{ℕ, suc, ◌+◌, ◌-◌, ◌≤◌}
-use mathlib.Core.Path.{◌≡◌, refl, sym, ap, ◌∙◌}
-use mathlib.Core.List.{List}
-use native.Mathlib.Omega.{arith}
-use lib.ListN.{length, take, length-set}
-use borrow.Author.Rules.{rules}
+use Prim.Native.Nat.{◌-◌, ◌≤◌}
+use mathlib.Core.Path.{◌≡◌}
+use lib.ListN.{length, take}
 use Rattle.columns.specs.Columns.{column}
-use Rattle.counts.proofs.Fronts.{front_more}
 use Rattle.counts.proofs.column_of.Given as goal
 
 abbrev pub invariant-loop-d : goal.invariant-loop-d

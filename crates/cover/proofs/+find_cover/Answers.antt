@@ -1,14 +1,13 @@
-use mathlib.Core.Path.{◌≡◌, refl, sym, ap, ◌∙◌}
+use mathlib.Core.Path.{refl, sym, ap, ◌∙◌}
 use mathlib.Core.List.{List}
-use Prim.Native.Nat.{◌≤◌, ◌+◌, ◌-◌, ℕ, ◌<◌}
+use Prim.Native.Nat.{◌≤◌, ◌+◌, ◌-◌, ℕ}
 use native.Mathlib.Omega.{arith}
 use borrow.Author.Rules.{rules}
 use lib.ListN.{length, get_or, length-set}
 use lib.Seq.{sets}
-use lib.Count.{ones}
 use Rattle.cover.specs.Masks.{fits, cover_of}
 use Rattle.cover.proofs.Ones.{ones_pos}
-use Rattle.cover.proofs.Turn.{rest, open0, open1, all_closed, open_mask, rest_end, passed, fits_here, failed, took, smaller, told_nothing, told_members, out_none, out_some, out_all}
+use Rattle.cover.proofs.Turn.{open0, open1, all_closed, open_mask, rest_end, passed, fits_here, failed, took, smaller, told_nothing, told_members, out_none, out_some, out_all}
 use Rattle.cover.proofs.+find_cover.Goals as goal
 
 pub returns-then-word0-ne0 : goal.returns-then-word0-ne0

@@ -4,7 +4,6 @@ use native.Mathlib.Omega.{arith}
 use lib.ListN.{get_or, take}
 use Rattle.cover.specs.Kept.{detectors_at, symptom_at}
 use Rattle.cover.proofs.Whole.{front_length, number_below, same_candidates}
-use borrow.Author.Rules.{rules}
 use Rattle.cover.proofs.compact.Goals as goal
 
 pub slice_bounds-fill_words-end-2 : goal.slice_bounds-fill_words-end-2

@@ -1,7 +1,5 @@
-use Prim.Native.Nat.{◌≤◌}
 use mathlib.Core.Path.{◌≡◌, sym, ap, ◌∙◌}
 use native.Mathlib.Omega.{arith}
-use borrow.Author.Rules.{rules}
 use Rattle.cover.specs.Search.{previous, equal_at}
 use Rattle.cover.proofs.Turn.{previous_hit, previous_miss, previous_none}
 use Rattle.cover.proofs.earlier_equal.Goals as goal

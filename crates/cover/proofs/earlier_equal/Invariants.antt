@@ -1,10 +1,7 @@
 -- `cover::earlier_equal` meets its contract. The invariant: the answer from here down is the whole answer.
 use Prim.Native.Nat.{◌≤◌}
-use mathlib.Core.Path.{◌≡◌, sym, ap, ◌∙◌}
-use native.Mathlib.Omega.{arith}
-use borrow.Author.Rules.{rules}
+use mathlib.Core.Path.{◌≡◌}
 use Rattle.cover.specs.Search.{previous, equal_at}
-use Rattle.cover.proofs.Turn.{previous_hit, previous_miss, previous_none}
 use Rattle.cover.proofs.earlier_equal.Given as goal
 
 abbrev pub invariant-loop-i : goal.invariant-loop-i

@@ -1,7 +1,6 @@
 -- `cover::equal_at` meets its contract: each return rewrites by the tests that led there.
 use borrow.Author.Tests.{ne_eqb, eq-eqb}
 use Rattle.cover.specs.Search.{equal_at}
-use borrow.Author.Rules.{rules}
 use Rattle.cover.proofs.equal_at.Goals as goal
 
 pub returns-then-masks-i : goal.returns-then-masks-i

@@ -1,12 +1,9 @@
 -- `cover::fill_words` meets its contract. The invariant: the words of each candidate passed are in place.
 use Prim.Native.Nat.{ℕ, ◌≤◌, ◌<◌, ◌-◌}
-use mathlib.Core.Path.{◌≡◌, refl}
-use native.Mathlib.Omega.{arith}
-use borrow.Author.Rules.{rules}
-use lib.ListN.{length, get_or, length-set}
+use mathlib.Core.Path.{◌≡◌}
+use lib.ListN.{length, get_or}
 use Rattle.cover.specs.Kept.{observables_at}
 use Rattle.cover.specs.Masks.{word_of}
-use Rattle.cover.proofs.Steps.{rows_more}
 use Rattle.cover.proofs.fill_words.Given as goal
 
 abbrev pub invariant-loop-i : goal.invariant-loop-i

@@ -1,12 +1,12 @@
 use Prim.Native.Nat.{ℕ, ◌-◌}
-use mathlib.Core.Path.{◌≡◌, refl, sym, ap, ◌∙◌}
+use mathlib.Core.Path.{refl, sym, ap, ◌∙◌}
 use mathlib.Core.List.{List, ◌++◌, append-nil}
 use native.Mathlib.Omega.{arith}
 use borrow.Author.Rules.{rules}
 use lib.ListN.{length, get_or, length-set, take}
 use Rattle.cover.specs.Kept.{detectors_at}
 use Rattle.cover.proofs.Steps.{fits_length, fits_rises, fits_below, member_at}
-use Rattle.cover.proofs.Merge.{Merging, begun, ended, head_is, taken, passed, no_more}
+use Rattle.cover.proofs.Merge.{begun, ended, head_is, taken, passed, no_more}
 use Rattle.cover.proofs.gather.Goals as goal
 
 pub heads_of-heads-requires : goal.heads_of-heads-requires

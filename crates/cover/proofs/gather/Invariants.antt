@@ -1,13 +1,9 @@
 -- `cover::gather` meets its contract. The invariant is `Merging`: the candidates so far, before those from the next mechanism on, are all of them.
-use Prim.Native.Nat.{ℕ, ◌-◌}
-use mathlib.Core.Path.{◌≡◌, refl, sym, ap, ◌∙◌}
-use mathlib.Core.List.{List, ◌++◌, append-nil}
-use native.Mathlib.Omega.{arith}
-use borrow.Author.Rules.{rules}
-use lib.ListN.{length, get_or, length-set, take}
+use Prim.Native.Nat.{◌-◌}
+use mathlib.Core.Path.{◌≡◌}
+use lib.ListN.{length}
 use Rattle.cover.specs.Kept.{detectors_at}
-use Rattle.cover.proofs.Steps.{fits_length, fits_rises, fits_below, member_at}
-use Rattle.cover.proofs.Merge.{Merging, begun, ended, head_is, taken, passed, no_more}
+use Rattle.cover.proofs.Merge.{Merging}
 use Rattle.cover.proofs.gather.Given as goal
 
 abbrev pub invariant-loop-next : goal.invariant-loop-next

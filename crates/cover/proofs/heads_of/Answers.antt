@@ -1,7 +1,6 @@
-use Prim.Native.Nat.{ℕ, ◌<◌, ◌≤◌, ◌-◌}
-use mathlib.Core.Path.{◌≡◌, refl}
+use Prim.Native.Nat.{◌-◌}
+use mathlib.Core.Path.{refl}
 use native.Mathlib.Omega.{arith}
-use borrow.Author.Rules.{rules}
 use lib.ListN.{length, get_or, length-set}
 use Rattle.cover.proofs.Steps.{rows_more, fits_length, fits_below, member_at}
 use Rattle.cover.proofs.heads_of.Goals as goal

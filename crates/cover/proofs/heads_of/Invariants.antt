@@ -1,10 +1,7 @@
 -- `cover::heads_of` meets its contract. The invariant: each head passed is in place.
 use Prim.Native.Nat.{ℕ, ◌<◌, ◌≤◌, ◌-◌}
-use mathlib.Core.Path.{◌≡◌, refl}
-use native.Mathlib.Omega.{arith}
-use borrow.Author.Rules.{rules}
-use lib.ListN.{length, get_or, length-set}
-use Rattle.cover.proofs.Steps.{rows_more, fits_length, fits_below, member_at}
+use mathlib.Core.Path.{◌≡◌}
+use lib.ListN.{length, get_or}
 use Rattle.cover.proofs.heads_of.Given as goal
 
 abbrev pub invariant-loop-i : goal.invariant-loop-i

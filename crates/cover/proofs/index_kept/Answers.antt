@@ -1,7 +1,6 @@
-use Prim.Native.Nat.{ℕ, ◌≤◌, ◌-◌}
+use Prim.Native.Nat.{ℕ, ◌-◌}
 use mathlib.Core.Path.{◌≡◌, refl, sym, ap, ◌∙◌, subst}
 use native.Mathlib.Omega.{arith}
-use borrow.Author.Rules.{rules}
 use lib.ListN.{length, get_or, length-set, get_or-replicate}
 use mathlib.Core.List.{List}
 use Rattle.cover.specs.Kept.{detectors_at, nowhere, starts_with}

@@ -1,12 +1,9 @@
 -- `cover::index_kept` meets its contract. The invariant is `Linked`: the chains of the mechanisms from k on.
-use Prim.Native.Nat.{ℕ, ◌≤◌, ◌-◌}
-use mathlib.Core.Path.{◌≡◌, refl, sym, ap, ◌∙◌, subst}
-use native.Mathlib.Omega.{arith}
-use borrow.Author.Rules.{rules}
-use lib.ListN.{length, get_or, length-set, get_or-replicate}
-use mathlib.Core.List.{List}
-use Rattle.cover.specs.Kept.{detectors_at, nowhere, starts_with}
-use Rattle.cover.proofs.Chain.{Linked, from_end, starts_is, starts_none, link_none, link_one, first_below}
+use Prim.Native.Nat.{◌≤◌, ◌-◌}
+use mathlib.Core.Path.{◌≡◌}
+use lib.ListN.{length}
+use Rattle.cover.specs.Kept.{detectors_at}
+use Rattle.cover.proofs.Chain.{Linked}
 use Rattle.cover.proofs.index_kept.Given as goal
 
 abbrev pub invariant-loop-k : goal.invariant-loop-k

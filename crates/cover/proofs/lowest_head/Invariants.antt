@@ -1,10 +1,5 @@
 -- `cover::lowest_head` meets its contract. The invariant: none passed is lower.
-use mathlib.Core.Path.{◌≡◌}
 use Prim.Native.Nat.{ℕ, ◌≤◌, ◌<◌, ◌-◌}
-use native.Mathlib.Nat.{le_refl}
-use native.Mathlib.Omega.{arith}
-use borrow.Author.Rules.{rules}
-use borrow.Author.Count.{below_more}
 use lib.ListN.{get_or}
 use Rattle.cover.proofs.lowest_head.Given as goal
 

@@ -1,12 +1,8 @@
 -- `cover::mark_earlier` meets its contract. The invariant: the earlier equal of each candidate passed is in place.
 use Prim.Native.Nat.{ℕ, ◌≤◌, ◌<◌, ◌-◌}
-use mathlib.Core.Path.{◌≡◌, refl}
-use native.Mathlib.Omega.{arith}
-use borrow.Author.Rules.{rules}
-use lib.ListN.{length, get_or, length-set}
+use mathlib.Core.Path.{◌≡◌}
+use lib.ListN.{length, get_or}
 use Rattle.cover.specs.Search.{previous, equal_at}
-use Rattle.cover.proofs.Turn.{previous_le}
-use Rattle.cover.proofs.Steps.{rows_more}
 use Rattle.cover.proofs.mark_earlier.Given as goal
 
 abbrev pub invariant-loop-j : goal.invariant-loop-j

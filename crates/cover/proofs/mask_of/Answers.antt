@@ -4,7 +4,6 @@ use mathlib.Core.Path.{◌≡◌, ap, ◌∙◌}
 use native.Mathlib.Omega.{arith}
 use lib.ListN.{get_or, take, drop}
 use Rattle.cover.specs.Masks.{mask_within}
-use borrow.Author.Rules.{rules}
 use Rattle.cover.proofs.mask_of.Goals as goal
 
 pub returns : goal.returns

@@ -5,7 +5,6 @@ use lib.ListN.{length}
 use lib.Count.{ones-le}
 use Rattle.cover.proofs.Steps.{fits_length, fits_rises}
 use Rattle.cover.proofs.Whole.{front_length, found}
-use borrow.Author.Rules.{rules}
 use Rattle.cover.proofs.partition_cover.Goals as goal
 
 pub mask_within-mask-requires : goal.mask_within-mask-requires

@@ -1,9 +1,5 @@
-use Prim.Native.Nat.{◌+◌, ◌-◌}
-use mathlib.Core.Path.{◌≡◌}
+use Prim.Native.Nat.{◌-◌}
 use native.Mathlib.Omega.{arith}
-use borrow.Author.Rules.{rules}
-use lib.ListN.{length, drop}
-use Rattle.cover.specs.Masks.{place_of}
 use Rattle.cover.proofs.Steps.{place_here, place_next, place_end}
 use Rattle.cover.proofs.place.Goals as goal
 

@@ -1,11 +1,8 @@
 -- `cover::place` meets its contract. The invariant: the place from here on, past those passed, is the place.
 use Prim.Native.Nat.{◌+◌, ◌-◌}
 use mathlib.Core.Path.{◌≡◌}
-use native.Mathlib.Omega.{arith}
-use borrow.Author.Rules.{rules}
 use lib.ListN.{length, drop}
 use Rattle.cover.specs.Masks.{place_of}
-use Rattle.cover.proofs.Steps.{place_here, place_next, place_end}
 use Rattle.cover.proofs.place.Given as goal
 
 abbrev pub invariant-loop-i : goal.invariant-loop-i

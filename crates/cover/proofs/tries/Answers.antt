@@ -1,6 +1,5 @@
 -- `cover::tries` meets its contract.
 use borrow.Author.Tests.{eq-eqb, ne_eqb}
-use borrow.Author.Rules.{rules}
 use Rattle.cover.proofs.tries.Goals as goal
 
 pub returns-then-before-eq0 : goal.returns-then-before-eq0

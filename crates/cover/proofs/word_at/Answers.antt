@@ -4,7 +4,6 @@ use mathlib.Core.Path.{◌≡◌, ap, ◌∙◌}
 use native.Mathlib.Omega.{arith}
 use lib.ListN.{get_or, take, drop}
 use Rattle.cover.specs.Masks.{word_of}
-use borrow.Author.Rules.{rules}
 use Rattle.cover.proofs.word_at.Goals as goal
 
 pub returns : goal.returns

@@ -1,10 +1,9 @@
-use Prim.Native.Nat.{ℕ, ◌-◌, ◌≤◌, ◌^◌}
+use Prim.Native.Nat.{ℕ, ◌-◌, ◌^◌}
 use mathlib.Core.Path.{◌≡◌, ap, ◌∙◌}
 use native.Mathlib.Nat.{le_refl}
 use native.Mathlib.Omega.{arith}
-use borrow.Author.Rules.{rules}
 use lib.Bits.{bit_or}
-use lib.ListN.{length, get_or, drop}
+use lib.ListN.{get_or, drop}
 use Rattle.cover.specs.Masks.{word_of}
 use Rattle.cover.proofs.Steps.{shl_one, word_in, word_out, word_end}
 use Rattle.cover.proofs.word_of.Goals as goal

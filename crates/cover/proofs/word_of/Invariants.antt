@@ -1,13 +1,8 @@
 -- `cover::word_of` meets its contract. The invariant: the word of the entries passed, from the last down.
-use Prim.Native.Nat.{ℕ, ◌-◌, ◌≤◌, ◌^◌}
-use mathlib.Core.Path.{◌≡◌, ap, ◌∙◌}
-use native.Mathlib.Nat.{le_refl}
-use native.Mathlib.Omega.{arith}
-use borrow.Author.Rules.{rules}
-use lib.Bits.{bit_or}
-use lib.ListN.{length, get_or, drop}
+use Prim.Native.Nat.{◌-◌, ◌≤◌}
+use mathlib.Core.Path.{◌≡◌}
+use lib.ListN.{length, drop}
 use Rattle.cover.specs.Masks.{word_of}
-use Rattle.cover.proofs.Steps.{shl_one, word_in, word_out, word_end}
 use Rattle.cover.proofs.word_of.Given as goal
 
 abbrev pub invariant-loop-i : goal.invariant-loop-i

@@ -1,7 +1,6 @@
 -- `decoder::answer_of` meets its contract: variant by variant.
 use mathlib.Core.Path.{sym, ap}
 use Rattle.decoder.specs.Parts.{answer_to}
-use borrow.Author.Rules.{rules}
 use Rattle.decoder.proofs.answer_of.Goals as goal
 
 pub returns-in-Decoded : goal.returns-in-Decoded

@@ -9,7 +9,6 @@ use Rattle.own_slices.proofs.Laws.{to_tabulate, longer}
 use Rattle.decoder.specs.Answer.{handed}
 use Rattle.decoder.proofs.Laws.{own, given}
 use Rattle.decoder.proofs.Answered.{own_is, checked, accepts, refused, blanked, decodes}
-use borrow.Author.Rules.{rules}
 use Rattle.decoder.proofs.decode_shot.Goals as goal
 
 pub returns-in-Refused : goal.returns-in-Refused

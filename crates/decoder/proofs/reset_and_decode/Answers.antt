@@ -5,7 +5,6 @@ use native.Mathlib.Omega.{arith}
 use borrow.Rule.Slice.PartMut.{same_len_mid}
 use Rattle.shot.proofs.Longer.{few_part, small_of, tables, places}
 use Rattle.decoder.proofs.Laws.{parted}
-use borrow.Author.Rules.{rules}
 use Rattle.decoder.proofs.reset_and_decode.Goals as goal
 
 pub reset-requires : goal.reset-requires

@@ -4,10 +4,9 @@ use mathlib.Core.List.{◌++◌}
 use native.Mathlib.Omega.{arith}
 use native.Mathlib.Nat.{add-sub_cancel_left}
 use lib.ListN.{length, get_or, take, drop}
-use borrow.Author.Rules.{rules}
 use Rattle.dem.specs.Tables.{symptom_entries, written}
 use Rattle.decompose.specs.Appended.{lists_from}
-use Rattle.decompose.proofs.Appending.{Appending, appending_none, part_long, part_fits, appending_next}
+use Rattle.decompose.proofs.Appending.{appending_none, part_long, part_fits, appending_next}
 use Rattle.decompose.proofs.append_lists.Goals as goal
 
 pub loop-k-init : goal.loop-k-init

@@ -3,7 +3,6 @@ use mathlib.Core.Path.{sym, ◌∙◌}
 use lib.ListN.{length}
 use Rattle.dem.specs.Positions.{tables}
 use Rattle.decompose.proofs.Starting.{of_many, as_long, roomy, begun}
-use borrow.Author.Rules.{rules}
 use Rattle.decompose.proofs.decompose_checked.Goals as goal
 
 pub start-kept-requires : goal.start-kept-requires
@@ -11,11 +10,10 @@ start-kept-requires c =
     record { fitting = c.requires.fitting; columns = c.requires.columns; lists = c.requires.lists; wide = c.requires.wide; starts_hold = of_many c.args.mechanisms _ c.requires.starts_hold; before_hold = of_many c.args.mechanisms _ c.requires.before_hold; next_hold = c.requires.next_hold }
 
 pub split_kept-requires : goal.split_kept-requires
-split_kept-requires c =
-    (
-      begun c.args.mechanisms (tables c.args.probability.now c.args.detector_counts.now c.args.observable_counts.now c.args.component_counts.now c.args.component_detectors.now c.args.component_observables.now c.args.entries.now) (tables c.args.out_probability.now c.args.out_detector_counts.now c.args.out_observable_counts.now c.args.out_component_counts.now c.args.out_component_detectors.now c.args.out_component_observables.now c.args.out_entries.now) c.args.starts.now c.start-kept.result _ _ c.start-kept.ensures.copied (length c.args.last_of.now) c.requires.fitting c.args.room c.requires.places c.requires.columns c.requires.lists _ _ _ _ _ _ _ _ _ c.start-kept.auto.last_of c.start-kept.ensures (c.start-kept.auto.first_of ∙ c.requires.wide ∙ sym c.start-kept.auto.last_of) (as_long _ _ _ c.requires.starts_hold c.start-kept.auto.starts) (as_long _ _ _ c.requires.before_hold c.start-kept.auto.before) (as_long _ _ _ c.requires.next_hold c.start-kept.auto.next_of) c.requires.numbers_hold c.requires.masks_hold c.requires.words0_hold c.requires.words1_hold c.requires.earlier_hold c.start-kept.auto.out_probability c.start-kept.auto.out_detector_counts c.start-kept.auto.out_observable_counts,
-      roomy c.args.mechanisms (tables c.args.probability.now c.args.detector_counts.now c.args.observable_counts.now c.args.component_counts.now c.args.component_detectors.now c.args.component_observables.now c.args.entries.now) (tables c.args.out_probability.now c.args.out_detector_counts.now c.args.out_observable_counts.now c.args.out_component_counts.now c.args.out_component_detectors.now c.args.out_component_observables.now c.args.out_entries.now) c.args.starts.now c.start-kept.result _ _ c.start-kept.ensures.copied (length c.args.last_of.now) c.requires.fitting c.args.room c.requires.places c.requires.columns c.requires.lists c.start-kept.auto.out_component_counts c.start-kept.auto.out_entries,
-    )
+split_kept-requires c = (
+  begun c.args.mechanisms (tables c.args.probability.now c.args.detector_counts.now c.args.observable_counts.now c.args.component_counts.now c.args.component_detectors.now c.args.component_observables.now c.args.entries.now) (tables c.args.out_probability.now c.args.out_detector_counts.now c.args.out_observable_counts.now c.args.out_component_counts.now c.args.out_component_detectors.now c.args.out_component_observables.now c.args.out_entries.now) c.args.starts.now c.start-kept.result _ _ c.start-kept.ensures.copied (length c.args.last_of.now) c.requires.fitting c.args.room c.requires.places c.requires.columns c.requires.lists _ _ _ _ _ _ _ _ _ c.start-kept.auto.last_of c.start-kept.ensures (c.start-kept.auto.first_of ∙ c.requires.wide ∙ sym c.start-kept.auto.last_of) (as_long _ _ _ c.requires.starts_hold c.start-kept.auto.starts) (as_long _ _ _ c.requires.before_hold c.start-kept.auto.before) (as_long _ _ _ c.requires.next_hold c.start-kept.auto.next_of) c.requires.numbers_hold c.requires.masks_hold c.requires.words0_hold c.requires.words1_hold c.requires.earlier_hold c.start-kept.auto.out_probability c.start-kept.auto.out_detector_counts c.start-kept.auto.out_observable_counts,
+  roomy c.args.mechanisms (tables c.args.probability.now c.args.detector_counts.now c.args.observable_counts.now c.args.component_counts.now c.args.component_detectors.now c.args.component_observables.now c.args.entries.now) (tables c.args.out_probability.now c.args.out_detector_counts.now c.args.out_observable_counts.now c.args.out_component_counts.now c.args.out_component_detectors.now c.args.out_component_observables.now c.args.out_entries.now) c.args.starts.now c.start-kept.result _ _ c.start-kept.ensures.copied (length c.args.last_of.now) c.requires.fitting c.args.room c.requires.places c.requires.columns c.requires.lists c.start-kept.auto.out_component_counts c.start-kept.auto.out_entries,
+)
 
 pub shape_of-out_probability : goal.shape_of-out_probability
 shape_of-out_probability c = c.split_kept.auto.out_probability ∙ c.start-kept.auto.out_probability

@@ -1,7 +1,6 @@
 -- `decompose::finish`: a part that was zeroed, and the lists after those of the kept mechanisms.
 use mathlib.Core.Path.{refl}
 use Rattle.decompose.proofs.Growing.{zero_part}
-use borrow.Author.Rules.{rules}
 use Rattle.decompose.proofs.finish.Goals as goal
 
 pub returns : goal.returns

@@ -3,7 +3,6 @@ use mathlib.Core.Path.{refl}
 use Rattle.dem.specs.Positions.{tables}
 use Rattle.split_model.specs.Begun.{columns_of}
 use Rattle.decompose.proofs.Growing.{grew, stopped, fits, appendable, made}
-use borrow.Author.Rules.{rules}
 use Rattle.decompose.proofs.split_kept.Goals as goal
 
 pub split_all-step-requires : goal.split_all-step-requires

@@ -3,7 +3,6 @@ use mathlib.Core.Path.{refl}
 use lib.ListN.{length}
 use Rattle.dem.specs.Positions.{tables}
 use Rattle.decompose.proofs.Starting.{through, small, kept_few, kept_tabled}
-use borrow.Author.Rules.{rules}
 use Rattle.decompose.proofs.start.Goals as goal
 
 pub copy_kept-kept-requires : goal.copy_kept-kept-requires

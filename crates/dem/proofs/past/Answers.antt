@@ -1,13 +1,12 @@
 -- `dem::past`: the place past a mechanism, by two sums.
 use Prim.Native.Nat.{ℕ, ◌+◌, ◌-◌}
 use native.Mathlib.Nat.{add-sub_cancel_left}
-use mathlib.Core.Path.{◌≡◌, refl, sym, ap, ◌∙◌}
+use mathlib.Core.Path.{sym, ap, ◌∙◌}
 use native.Mathlib.Omega.{arith}
 use lib.ListN.{take, drop}
 use Rattle.dem.specs.Positions.{place_past, total}
 use Rattle.dem.specs.declared.Place.{Place}
 use Rattle.dem.proofs.Positions.{past_sums}
-use borrow.Author.Rules.{rules}
 use Rattle.dem.proofs.past.Goals as goal
 
 pub overflow_add-result-2 : goal.overflow_add-result-2

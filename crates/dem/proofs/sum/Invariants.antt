@@ -1,11 +1,8 @@
 -- `dem::sum`: s and what is left add up to the whole, and s is at most 255 for each byte passed.
-use Prim.Native.Nat.{ℕ, ◌+◌, ◌-◌, ◌*◌, ◌≤◌}
-use mathlib.Core.Path.{◌≡◌, refl, sym, ◌∙◌}
-use native.Mathlib.Omega.{arith}
+use Prim.Native.Nat.{◌+◌, ◌-◌, ◌*◌, ◌≤◌}
+use mathlib.Core.Path.{◌≡◌}
 use lib.ListN.{length, drop}
-use borrow.Author.Rules.{rules}
 use Rattle.dem.specs.Positions.{total}
-use Rattle.dem.proofs.Sums.{total_turn, total_end}
 use Rattle.dem.proofs.sum.Given as goal
 
 abbrev pub invariant-loop-i : goal.invariant-loop-i

@@ -1,12 +1,6 @@
 -- `dem::totals`: five sums.
-use Prim.Native.Nat.{ℕ}
-use mathlib.Core.Path.{ap}
-use native.Mathlib.Nat.{sub-zero}
-use native.Mathlib.Omega.{arith}
-use lib.ListN.{take}
-use Rattle.dem.specs.Positions.{columns, total}
+use Rattle.dem.specs.Positions.{columns}
 use Rattle.dem.proofs.Positions.{totals_are}
-use borrow.Author.Rules.{rules}
 use Rattle.dem.proofs.totals.Goals as goal
 
 pub returns : goal.returns

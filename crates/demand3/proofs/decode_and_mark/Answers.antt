@@ -1,6 +1,5 @@
 -- `demand3::decode_and_mark` meets its contract: the decoder's promise and the marker's, put together.
 use Rattle.demand3.proofs.Verified.{fits, verified}
-use borrow.Author.Rules.{rules}
 use Rattle.demand3.proofs.decode_and_mark.Goals as goal
 
 pub mark_answer-requires : goal.mark_answer-requires

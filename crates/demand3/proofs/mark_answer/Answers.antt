@@ -3,7 +3,6 @@ use mathlib.Core.Path.{refl}
 use native.Mathlib.Omega.{arith}
 use Rattle.lent_graph.specs.Call.{lent_of}
 use Rattle.demand3.proofs.Verified.{follows_decoded, follows_stuck, follows_refused}
-use borrow.Author.Rules.{rules}
 use Rattle.demand3.proofs.mark_answer.Goals as goal
 
 pub slice_bounds-mark-end : goal.slice_bounds-mark-end

@@ -1,10 +1,7 @@
-use Prim.Native.Nat.{◌-◌, ◌*◌, ◌+◌, ◌≤◌, ◌<◌}
-use mathlib.Core.Path.{◌≡◌, refl, sym, ap, ◌∙◌}
+use Prim.Native.Nat.{◌-◌}
+use mathlib.Core.Path.{sym, ◌∙◌}
 use native.Mathlib.Omega.{arith}
-use lib.ListN.{length}
-use borrow.Author.Rules.{rules}
-use Rattle.edges.specs.Chains.{last_ends}
-use Rattle.edges.proofs.Chains.{onward, Link, fuel, start_link, start_onward, link_below, next_link, next_less, onward_found, onward_next, onward_end}
+use Rattle.edges.proofs.Chains.{start_link, start_onward, link_below, next_link, next_less, onward_found, onward_next, onward_end}
 use Rattle.edges.proofs.find_edge.Goals as goal
 
 pub loop-at-init : goal.loop-at-init

@@ -1,11 +1,8 @@
 -- `edges::find_edge`: what is found from this place of the chain on is what is found at all.
-use Prim.Native.Nat.{◌-◌, ◌*◌, ◌+◌, ◌≤◌, ◌<◌}
-use mathlib.Core.Path.{◌≡◌, refl, sym, ap, ◌∙◌}
-use native.Mathlib.Omega.{arith}
-use lib.ListN.{length}
-use borrow.Author.Rules.{rules}
+use Prim.Native.Nat.{◌-◌}
+use mathlib.Core.Path.{◌≡◌}
 use Rattle.edges.specs.Chains.{last_ends}
-use Rattle.edges.proofs.Chains.{onward, Link, fuel, start_link, start_onward, link_below, next_link, next_less, onward_found, onward_next, onward_end}
+use Rattle.edges.proofs.Chains.{onward, Link, fuel}
 use Rattle.edges.proofs.find_edge.Given as goal
 
 abbrev pub invariant-loop-at : goal.invariant-loop-at

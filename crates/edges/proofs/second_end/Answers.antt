@@ -1,6 +1,5 @@
 -- `edges::second_end` meets its contract.
 use borrow.Author.Tests.{lt-ltb, le-ltb}
-use borrow.Author.Rules.{rules}
 use Rattle.edges.proofs.second_end.Goals as goal
 
 pub returns-then-d-lt2 : goal.returns-then-d-lt2

@@ -1,11 +1,8 @@
 -- `edges::share` meets its contract: replaced, kept or appended.
-use Prim.Native.Nat.{ℕ, ◌+◌, ◌*◌, ◌≤◌, ◌<◌}
-use mathlib.Core.Path.{◌≡◌, refl, sym, ap, ◌∙◌}
+use mathlib.Core.Path.{refl, sym, ◌∙◌}
 use native.Mathlib.Omega.{arith}
-use lib.ListN.{length}
-use Rattle.edges.specs.Tables.{Slices, slices, edge_with}
+use Rattle.edges.specs.Tables.{slices, edge_with}
 use Rattle.edges.proofs.Sharing.{replaced, kept, appended, found_at, row_below}
-use borrow.Author.Rules.{rules}
 use Rattle.edges.proofs.share.Goals as goal
 
 pub find_edge-found-requires : goal.find_edge-found-requires

@@ -1,13 +1,11 @@
 -- `edges::write_edge` meets its contract: a store in each table, and the row as it is lent.
-use Prim.Native.Nat.{ℕ, ◌+◌, ◌*◌, ◌-◌, ◌≤◌, ◌<◌}
-use mathlib.Core.Path.{◌≡◌, refl, sym, ap, ◌∙◌}
-use mathlib.Core.List.{List}
+use Prim.Native.Nat.{◌-◌, ◌≤◌}
+use mathlib.Core.Path.{refl, ap}
 use native.Mathlib.Omega.{arith}
 use native.Mathlib.Nat.{mul-le-mul}
-use lib.ListN.{length, set}
+use lib.ListN.{set}
 use Rattle.bits.specs.Rows.{words}
 use Rattle.edges.proofs.Slices.{same_slices, put_is}
-use borrow.Author.Rules.{rules}
 use Rattle.edges.proofs.write_edge.Goals as goal
 
 pub overflow_mul-from : goal.overflow_mul-from

@@ -1,10 +1,9 @@
-use Prim.Native.Nat.{ℕ, ◌+◌, ◌-◌, ◌/◌, ◌≤◌, ◌<◌}
-use mathlib.Core.Path.{◌≡◌, refl, sym, ap, ◌∙◌}
+use Prim.Native.Nat.{ℕ, ◌+◌, ◌-◌}
+use mathlib.Core.Path.{refl, sym, ap, ◌∙◌}
 use mathlib.Core.List.{List}
 use native.Mathlib.Omega.{arith}
-use lib.ListN.{length, drop, get_or, replicate}
-use borrow.Author.Rules.{rules}
-use Rattle.edges.proofs.Rows.{set_all, set_turn, set_end, length_set_bit, word_below, row_is}
+use lib.ListN.{drop, replicate}
+use Rattle.edges.proofs.Rows.{set_all, set_turn, set_end, word_below, row_is}
 use Rattle.edges.proofs.write_row.Goals as goal
 
 pub loop-i-init : goal.loop-i-init

@@ -1,11 +1,8 @@
 -- `edges::write_row`: the bits still to set, set here, give what all give in the zero row.
-use Prim.Native.Nat.{ℕ, ◌+◌, ◌-◌, ◌/◌, ◌≤◌, ◌<◌}
-use mathlib.Core.Path.{◌≡◌, refl, sym, ap, ◌∙◌}
-use mathlib.Core.List.{List}
-use native.Mathlib.Omega.{arith}
-use lib.ListN.{length, drop, get_or, replicate}
-use borrow.Author.Rules.{rules}
-use Rattle.edges.proofs.Rows.{set_all, set_turn, set_end, length_set_bit, word_below, row_is}
+use Prim.Native.Nat.{◌-◌}
+use mathlib.Core.Path.{◌≡◌}
+use lib.ListN.{length, drop}
+use Rattle.edges.proofs.Rows.{set_all}
 use Rattle.edges.proofs.write_row.Given as goal
 
 abbrev pub invariant-loop-i : goal.invariant-loop-i

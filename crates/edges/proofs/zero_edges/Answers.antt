@@ -1,7 +1,5 @@
 -- `edges::zero_edges`: table by table.
-use mathlib.Core.Path.{refl}
 use lib.Ieee.{of_bits}
-use borrow.Author.Rules.{rules}
 use Rattle.edges.proofs.zero_edges.Goals as goal
 
 pub returns : goal.returns

@@ -1,5 +1,4 @@
 -- `failures::and_then` meets its contract: the second check is the answer where the first accepts.
-use borrow.Author.Rules.{rules}
 use Rattle.failures.proofs.and_then.Goals as goal
 
 pub returns-in-Refused : goal.returns-in-Refused

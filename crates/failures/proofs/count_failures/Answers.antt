@@ -1,10 +1,6 @@
-use Prim.Native.Nat.{◌+◌, ◌-◌, ◌≤◌}
-use mathlib.Core.Path.{◌≡◌, sym, ◌∙◌}
+use Prim.Native.Nat.{◌-◌}
 use native.Mathlib.Omega.{arith}
-use borrow.Author.Rules.{rules}
-use Rattle.bits.specs.Rows.{words}
-use Rattle.failures.specs.Failures.{failures_in}
-use Rattle.failures.proofs.Counting.{failures_from, at_first, at_last, turn, few, comparable_row}
+use Rattle.failures.proofs.Counting.{at_first, at_last, turn, few, comparable_row}
 use Rattle.failures.proofs.count_failures.Goals as goal
 
 pub loop-next-init : goal.loop-next-init

@@ -1,11 +1,8 @@
 -- `failures::count_failures` meets its contract. The invariant: with the failures from the next shot on, those counted are all.
 use Prim.Native.Nat.{◌+◌, ◌-◌, ◌≤◌}
-use mathlib.Core.Path.{◌≡◌, sym, ◌∙◌}
-use native.Mathlib.Omega.{arith}
-use borrow.Author.Rules.{rules}
-use Rattle.bits.specs.Rows.{words}
+use mathlib.Core.Path.{◌≡◌}
 use Rattle.failures.specs.Failures.{failures_in}
-use Rattle.failures.proofs.Counting.{failures_from, at_first, at_last, turn, few, comparable_row}
+use Rattle.failures.proofs.Counting.{failures_from}
 use Rattle.failures.proofs.count_failures.Given as goal
 
 abbrev pub invariant-loop-next : goal.invariant-loop-next

@@ -6,7 +6,6 @@ use Rattle.codes.specs.declared.Checked.{Checked}
 use Rattle.codes.specs.Order.{and_then}
 use Rattle.failures.specs.Failures.{rate_of, failures_in, answer_of}
 use Rattle.failures.proofs.Counting.{few, fits, answered}
-use borrow.Author.Rules.{rules}
 use Rattle.failures.proofs.rate_answer.Goals as goal
 
 pub returns-in-Refused : goal.returns-in-Refused

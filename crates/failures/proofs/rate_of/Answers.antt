@@ -1,7 +1,6 @@
 -- `failures::rate_of` meets its contract: each return rewrites by the tests that led there.
 use borrow.Author.Tests.{eq-eqb, ne_eqb}
 use Rattle.failures.specs.Failures.{rate_of}
-use borrow.Author.Rules.{rules}
 use Rattle.failures.proofs.rate_of.Goals as goal
 
 pub returns-then-shots-eq0 : goal.returns-then-shots-eq0

@@ -1,13 +1,7 @@
 -- `failures::row_differs` meets its contract. The invariant: the words before the next one are the same.
 use Prim.Native.Nat.{ℕ, ◌-◌, ◌≤◌, ◌<◌}
-use mathlib.Core.Path.{◌≡◌, sym, ◌∙◌}
-use native.Mathlib.Omega.{arith}
-use borrow.Author.Rules.{rules}
-use lib.Dec.{eqb}
+use mathlib.Core.Path.{◌≡◌}
 use lib.ListN.{length, get_or}
-use borrow.Author.Tests.{eqb-true, eqb-false}
-use Rattle.lists.proofs.Truth.{case-of}
-use Rattle.failures.proofs.Differs.{none_differs, one_differs, all_same}
 use Rattle.failures.proofs.row_differs.Given as goal
 
 abbrev pub invariant-loop-next : goal.invariant-loop-next

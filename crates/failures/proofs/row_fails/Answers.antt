@@ -3,7 +3,6 @@ use native.Mathlib.Omega.{arith}
 use mathlib.Core.Path.{sym, ◌∙◌}
 use mathlib.Core.Bool.{true, false}
 use Rattle.failures.proofs.Counting.{parts, asks, counts}
-use borrow.Author.Rules.{rules}
 use Rattle.failures.proofs.row_fails.Goals as goal
 
 pub overflow_mul-at : goal.overflow_mul-at

@@ -5,7 +5,6 @@ use mathlib.Core.Bool.{false}
 use native.Mathlib.Omega.{arith}
 use Rattle.columns.proofs.Columns.{keep_length, keep_more, keep_then}
 use Rattle.finish.proofs.Ends.{edges, places, finished}
-use borrow.Author.Rules.{rules}
 use Rattle.finish.proofs.finish.Goals as goal
 
 pub peel_all-r-requires : goal.peel_all-r-requires

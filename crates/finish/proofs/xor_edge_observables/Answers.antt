@@ -1,6 +1,6 @@
 use Prim.Native.Nat.{◌-◌}
 use native.Mathlib.Omega.{arith}
-use Rattle.finish.proofs.Observables.{Flipping, start_flip, end_flip, within, turn_flip}
+use Rattle.finish.proofs.Observables.{start_flip, end_flip, within, turn_flip}
 use Rattle.finish.proofs.xor_edge_observables.Goals as goal
 
 pub loop-i-init : goal.loop-i-init

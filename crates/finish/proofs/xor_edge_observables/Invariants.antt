@@ -1,7 +1,6 @@
 -- `finish::xor_edge_observables` meets its contract. The invariant: the edges before i are done.
 use Prim.Native.Nat.{◌-◌}
-use native.Mathlib.Omega.{arith}
-use Rattle.finish.proofs.Observables.{Flipping, start_flip, end_flip, within, turn_flip}
+use Rattle.finish.proofs.Observables.{Flipping}
 use Rattle.finish.proofs.xor_edge_observables.Given as goal
 
 abbrev pub invariant-loop-i : goal.invariant-loop-i

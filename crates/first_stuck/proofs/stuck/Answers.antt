@@ -1,12 +1,10 @@
-use Prim.Native.Nat.{◌-◌, ◌≤◌}
+use Prim.Native.Nat.{◌-◌}
 use mathlib.Core.Path.{◌≡◌, refl, sym, ap, ◌∙◌}
 use mathlib.Core.Bool.{false}
 use native.Mathlib.Omega.{arith}
-use lib.ListN.{take, get_or}
-use lib.Seq.{slice}
+use lib.ListN.{get_or}
 use Rattle.columns.proofs.Columns.{column_length}
 use Rattle.cells.specs.Tables.{frees, active}
-use Rattle.first_stuck.specs.FirstStuck.{first_shut}
 use Rattle.first_stuck.proofs.Shut.{shut_next, shut_here, shut_end}
 use Rattle.first_stuck.proofs.stuck.Goals as goal
 

@@ -1,14 +1,10 @@
 -- `first_stuck::stuck` meets its contract. Assumes nothing.
 use Prim.Native.Nat.{◌-◌, ◌≤◌}
-use mathlib.Core.Path.{◌≡◌, refl, sym, ap, ◌∙◌}
-use mathlib.Core.Bool.{false}
-use native.Mathlib.Omega.{arith}
-use lib.ListN.{take, get_or}
+use mathlib.Core.Path.{◌≡◌}
+use lib.ListN.{take}
 use lib.Seq.{slice}
-use Rattle.columns.proofs.Columns.{column_length}
 use Rattle.cells.specs.Tables.{frees, active}
 use Rattle.first_stuck.specs.FirstStuck.{first_shut}
-use Rattle.first_stuck.proofs.Shut.{shut_next, shut_here, shut_end}
 use Rattle.first_stuck.proofs.stuck.Given as goal
 
 abbrev pub invariant-loop-i : goal.invariant-loop-i

@@ -4,7 +4,6 @@ use native.Mathlib.Omega.{arith}
 use Rattle.columns.proofs.Columns.{keep_then}
 use Rattle.forest.proofs.Forest.{compressed}
 use Rattle.forest.proofs.Rows.{in_rows}
-use borrow.Author.Rules.{rules}
 use Rattle.forest.proofs.compress.Goals as goal
 
 pub find-r-requires : goal.find-r-requires

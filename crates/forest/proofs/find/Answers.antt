@@ -1,10 +1,7 @@
-use mathlib.Core.Path.{◌≡◌, refl, sym, ◌∙◌}
-use mathlib.Core.List.{[], ◌∷◌}
+use mathlib.Core.Path.{sym, ◌∙◌}
 use native.Mathlib.Omega.{arith}
-use lib.ListN.{length, get_or}
 use Rattle.columns.proofs.Columns.{keep_then}
-use Rattle.cells.specs.Tables.{parents, SameTree}
-use Rattle.forest.proofs.Forest.{Along, along_start, found, parent_le, parent_in, grand_le, grand_in, halve}
+use Rattle.forest.proofs.Forest.{along_start, found, parent_le, parent_in, grand_le, grand_in, halve}
 use Rattle.forest.proofs.Rows.{in_rows, same_start}
 use Rattle.forest.proofs.find.Goals as goal
 

@@ -1,12 +1,9 @@
 -- `forest::find` meets its contract. The invariant: x is on the way up from v, and up is its parent. Assumes nothing.
-use mathlib.Core.Path.{◌≡◌, refl, sym, ◌∙◌}
+use mathlib.Core.Path.{◌≡◌}
 use mathlib.Core.List.{[], ◌∷◌}
-use native.Mathlib.Omega.{arith}
-use lib.ListN.{length, get_or}
-use Rattle.columns.proofs.Columns.{keep_then}
+use lib.ListN.{get_or}
 use Rattle.cells.specs.Tables.{parents, SameTree}
-use Rattle.forest.proofs.Forest.{Along, along_start, found, parent_le, parent_in, grand_le, grand_in, halve}
-use Rattle.forest.proofs.Rows.{in_rows, same_start}
+use Rattle.forest.proofs.Forest.{Along}
 use Rattle.forest.proofs.find.Given as goal
 
 abbrev pub invariant-loop-up : goal.invariant-loop-up

@@ -1,5 +1,4 @@
 -- `frames::at_end`: by the stage.
-use borrow.Author.Rules.{rules}
 use Rattle.frames.proofs.at_end.Goals as goal
 
 pub returns-in-Nothing : goal.returns-in-Nothing

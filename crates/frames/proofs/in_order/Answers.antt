@@ -1,6 +1,5 @@
 -- `frames::in_order`: by the stage.
 use Rattle.frames.specs.Input.{in_order}
-use borrow.Author.Rules.{rules}
 use Rattle.frames.proofs.in_order.Goals as goal
 
 pub returns-in-Nothing : goal.returns-in-Nothing

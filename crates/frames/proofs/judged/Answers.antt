@@ -1,6 +1,5 @@
 -- `frames::judged`: right, then held.
 use borrow.Author.Tests.{not-true, not-false}
-use borrow.Author.Rules.{rules}
 use mathlib.Core.Path.{ap}
 use mathlib.Core.Bool.{not}
 use Rattle.frames.proofs.judged.Goals as goal

@@ -6,7 +6,6 @@ use Rattle.hex_text.specs.Hex.{bytes_of}
 use Rattle.frames.specs.Input.{in_order}
 use Rattle.frames.specs.Counts.{line_of}
 use Rattle.frames.proofs.FrameKinds.{order_none, kind_none}
-use borrow.Author.Rules.{rules}
 use mathlib.Core.Bool.{not}
 use Rattle.frames.proofs.next_line.Goals as goal
 

@@ -3,7 +3,6 @@ use native.Mathlib.Omega.{arith}
 use Rattle.hex_text.specs.Hex.{bytes_of}
 use Rattle.frames.specs.Counts.{count_after}
 use Rattle.frames.proofs.FrameKinds.{frame_3, held_of, long_not, line_when}
-use borrow.Author.Rules.{rules}
 use Rattle.frames.proofs.read_component.Goals as goal
 
 pub returns-then-byte_count-lt3 : goal.returns-then-byte_count-lt3

@@ -5,7 +5,6 @@ use Rattle.hex_text.specs.Hex.{bytes_of}
 use Rattle.bits.specs.Rows.{words}
 use Rattle.frames.specs.Counts.{count_after}
 use Rattle.frames.proofs.FrameKinds.{frame_4, frame_5, frame_6, frame_none, held_of, line_when}
-use borrow.Author.Rules.{rules}
 use Rattle.frames.proofs.read_frame.Goals as goal
 
 pub returns-then-kind-eq4 : goal.returns-then-kind-eq4

@@ -5,7 +5,6 @@ use lib.ListN.{length}
 use Rattle.hex_text.specs.Hex.{bytes_of}
 use Rattle.frames.specs.Counts.{count_after}
 use Rattle.frames.proofs.FrameKinds.{frame_1, line_when}
-use borrow.Author.Rules.{rules}
 use Rattle.frames.proofs.read_header.Goals as goal
 
 pub returns-then-count-lt5 : goal.returns-then-count-lt5

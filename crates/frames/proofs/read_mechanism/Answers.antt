@@ -3,7 +3,6 @@ use native.Mathlib.Omega.{arith}
 use Rattle.hex_text.specs.Hex.{bytes_of}
 use Rattle.frames.specs.Counts.{count_after}
 use Rattle.frames.proofs.FrameKinds.{frame_2, held_of, long_not, line_when}
-use borrow.Author.Rules.{rules}
 use Rattle.frames.proofs.read_mechanism.Goals as goal
 
 pub returns-then-byte_count-lt11 : goal.returns-then-byte_count-lt11

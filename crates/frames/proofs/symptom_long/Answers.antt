@@ -2,7 +2,6 @@
 use mathlib.Core.Path.{sym}
 use Rattle.hex_text.specs.Hex.{bytes_of}
 use Rattle.frames.proofs.FrameKinds.{size_is, long_test}
-use borrow.Author.Rules.{rules}
 use Rattle.frames.proofs.symptom_long.Goals as goal
 
 pub returns : goal.returns

@@ -1,11 +1,10 @@
 -- `graph::check_slices` meets its contract: the limits, the model's tables, then the other slices.
-use mathlib.Core.Path.{◌≡◌, sym, ◌∙◌}
+use mathlib.Core.Path.{sym, ◌∙◌}
 use borrow.Author.Tests.{not-true, not-false}
 use Rattle.dem.specs.Positions.{tables}
 use Rattle.codes.proofs.Checks.{counts_within}
 use Rattle.edges.specs.Tables.{slices}
 use Rattle.graph.proofs.Answers.{over_limit, model_refused, tables_short, scratch_short, all_long}
-use borrow.Author.Rules.{rules}
 use mathlib.Core.Path.{ap}
 use mathlib.Core.Bool.{not}
 use Rattle.graph.proofs.check_slices.Goals as goal

@@ -1,16 +1,13 @@
 -- `graph::from_model` meets its contract: a refusal leaves zero, edges leave their tables.
-use mathlib.Core.Path.{◌≡◌, refl, sym, ap, ◌∙◌}
+use mathlib.Core.Path.{refl, sym, ap, ◌∙◌}
 use mathlib.Core.Bool.{false}
 use Prim.Native.Nat.{ℕ}
 use lib.IntN.{pos}
-use lib.Ieee.{Float, fin}
+use lib.Ieee.{fin}
 use lib.ListN.{replicate}
 use Rattle.dem.specs.Positions.{tables}
-use Rattle.dem.specs.Tables.{model_of}
-use Rattle.edges.specs.Compile.{compile}
 use Rattle.edges.specs.Tables.{slices}
 use Rattle.graph.proofs.Answers.{zero_left, edges_left, refusal_is, outcome_refused, outcome_edges}
-use borrow.Author.Rules.{rules}
 use Rattle.graph.proofs.from_model.Goals as goal
 
 pub shape_of-edge_u-in-Refused : goal.shape_of-edge_u-in-Refused

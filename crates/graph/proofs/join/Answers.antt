@@ -1,14 +1,11 @@
 -- `graph::join` meets its contract: refused, skipped, too large, or an edge.
-use Prim.Native.Nat.{ℕ, ◌+◌, ◌*◌, ◌≤◌, ◌<◌}
-use mathlib.Core.Path.{◌≡◌, refl, sym, ap, ◌∙◌}
+use mathlib.Core.Path.{sym, ap, ◌∙◌}
 use mathlib.Core.Bool.{true}
 use native.Mathlib.Omega.{arith}
 use lib.Ieee.{of_bits}
-use lib.ListN.{length, get_or}
 use Rattle.dem.specs.Model.{list_fits}
-use Rattle.edges.specs.Tables.{Slices, slices}
+use Rattle.edges.specs.Tables.{slices}
 use Rattle.graph.proofs.Joining.{is_refused, is_zero_lem, is_empty_lem, is_large, is_edge, first_below, row_fits, row_is_lent}
-use borrow.Author.Rules.{rules}
 use Rattle.graph.proofs.join.Goals as goal
 
 pub returns-in-Refused : goal.returns-in-Refused

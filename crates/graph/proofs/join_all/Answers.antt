@@ -1,12 +1,11 @@
-use Prim.Native.Nat.{ℕ, ◌+◌, ◌-◌, ◌*◌, ◌≤◌, ◌<◌}
-use mathlib.Core.Path.{◌≡◌, refl, sym, ap, ◌∙◌}
+use Prim.Native.Nat.{◌-◌}
+use mathlib.Core.Path.{refl, ◌∙◌}
 use native.Mathlib.Omega.{arith}
-use borrow.Author.Rules.{rules}
 use lib.ListN.{length}
 use Rattle.dem.specs.Positions.{tables, head_of, place_of}
 use Rattle.dem.proofs.Positions.{reached_of, inside_of, past_inside, place_next}
-use Rattle.edges.specs.Tables.{Slices, slices}
-use Rattle.graph.proofs.Going.{Going, Alike, held, room, going_first, joined_next, many_few, stopped, went, ended}
+use Rattle.edges.specs.Tables.{slices}
+use Rattle.graph.proofs.Going.{held, room, going_first, joined_next, many_few, stopped, went, ended}
 use Rattle.graph.proofs.join_all.Goals as goal
 
 pub loop-i-init : goal.loop-i-init

@@ -1,13 +1,8 @@
 -- `graph::join_all`: the tables hold the edges of the mechanisms so far.
-use Prim.Native.Nat.{ℕ, ◌+◌, ◌-◌, ◌*◌, ◌≤◌, ◌<◌}
-use mathlib.Core.Path.{◌≡◌, refl, sym, ap, ◌∙◌}
-use native.Mathlib.Omega.{arith}
-use borrow.Author.Rules.{rules}
-use lib.ListN.{length}
-use Rattle.dem.specs.Positions.{tables, head_of, place_of}
-use Rattle.dem.proofs.Positions.{reached_of, inside_of, past_inside, place_next}
-use Rattle.edges.specs.Tables.{Slices, slices}
-use Rattle.graph.proofs.Going.{Going, Alike, held, room, going_first, joined_next, many_few, stopped, went, ended}
+use Prim.Native.Nat.{◌-◌}
+use Rattle.dem.specs.Positions.{tables}
+use Rattle.edges.specs.Tables.{slices}
+use Rattle.graph.proofs.Going.{Going, Alike}
 use Rattle.graph.proofs.join_all.Given as goal
 
 abbrev pub invariant-loop-i : goal.invariant-loop-i

@@ -9,7 +9,6 @@ use Rattle.dem.specs.Positions.{tables}
 use Rattle.codes.proofs.Checks.{counts_within, unless_accepted}
 use Rattle.dem.proofs.Laws as dem
 use Rattle.graphlike.proofs.Answers.{over_limit, short_model, by_lengths}
-use borrow.Author.Rules.{rules}
 use mathlib.Core.Bool.{not}
 use Rattle.graphlike.proofs.check.Goals as goal
 

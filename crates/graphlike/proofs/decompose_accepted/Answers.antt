@@ -6,7 +6,6 @@ use borrow.Rule.Slice.PartMut.{same_len_mid}
 use Rattle.dem.specs.Tables.{model_of}
 use Rattle.dem.specs.Positions.{tables}
 use Rattle.graphlike.proofs.Answers.{last_long, first_long, decomposable, same_zero, refused_left, model_left}
-use borrow.Author.Rules.{rules}
 use Rattle.graphlike.proofs.decompose_accepted.Goals as goal
 
 pub slice_bounds-decompose_checked-end : goal.slice_bounds-decompose_checked-end

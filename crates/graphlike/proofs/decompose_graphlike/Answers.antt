@@ -3,7 +3,6 @@ use mathlib.Core.Path.{sym, ◌∙◌}
 use Rattle.dem.specs.Positions.{tables}
 use Rattle.graphlike.specs.Lent.{scratch_of}
 use Rattle.graphlike.proofs.Answers.{lent, check_refused, check_accepted}
-use borrow.Author.Rules.{rules}
 use Rattle.graphlike.proofs.decompose_graphlike.Goals as goal
 
 pub shape_of-out_probability-in-Refused : goal.shape_of-out_probability-in-Refused

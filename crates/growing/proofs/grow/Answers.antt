@@ -1,13 +1,13 @@
-use Prim.Native.Nat.{ℕ, ◌-◌, ◌+◌, ◌≤◌}
+use Prim.Native.Nat.{ℕ, ◌-◌, ◌+◌}
 use mathlib.Core.Path.{◌≡◌, refl, sym, ap, ◌∙◌}
-use mathlib.Core.List.{List, [], ◌∷◌, ◌++◌}
+use mathlib.Core.List.{List, [], ◌∷◌}
 use native.Mathlib.Omega.{arith}
-use lib.ListN.{length, get_or, set, take, length-set}
+use lib.ListN.{get_or, set, take, length-set}
 use lib.Seq.{slice}
-use lib.Ieee.{Float, nan}
+use lib.Ieee.{Float}
 use Rattle.columns.proofs.Columns.{column_length, keep_none, keep_then, keep_more}
-use Rattle.cells.specs.Tables.{touched, cnt, fresh, SameLinks}
-use Rattle.growing.specs.Growing.{grow_in, ripe_in, moved_by, reaches_from}
+use Rattle.cells.specs.Tables.{touched, cnt, fresh}
+use Rattle.growing.specs.Growing.{grow_in}
 use Rattle.growing.proofs.Laws.{grow_turn, grow_end, ripe_turn, ripe_end}
 use Rattle.growth_state.proofs.Laws.{byte_low}
 use Rattle.growing.proofs.grow.Goals as goal

@@ -1,16 +1,11 @@
 -- `growing::grow` meets its contract. The invariant: the growths with the edges from i on moved, and what is listed with what those add, are the answer.
-use Prim.Native.Nat.{ℕ, ◌-◌, ◌+◌, ◌≤◌}
-use mathlib.Core.Path.{◌≡◌, refl, sym, ap, ◌∙◌}
-use mathlib.Core.List.{List, [], ◌∷◌, ◌++◌}
-use native.Mathlib.Omega.{arith}
-use lib.ListN.{length, get_or, set, take, length-set}
+use Prim.Native.Nat.{◌-◌, ◌+◌, ◌≤◌}
+use mathlib.Core.Path.{◌≡◌}
+use mathlib.Core.List.{[], ◌∷◌, ◌++◌}
+use lib.ListN.{length, take}
 use lib.Seq.{slice}
-use lib.Ieee.{Float, nan}
-use Rattle.columns.proofs.Columns.{column_length, keep_none, keep_then, keep_more}
 use Rattle.cells.specs.Tables.{touched, cnt, fresh, SameLinks}
-use Rattle.growing.specs.Growing.{grow_in, ripe_in, moved_by, reaches_from}
-use Rattle.growing.proofs.Laws.{grow_turn, grow_end, ripe_turn, ripe_end}
-use Rattle.growth_state.proofs.Laws.{byte_low}
+use Rattle.growing.specs.Growing.{grow_in, ripe_in}
 use Rattle.growing.proofs.grow.Given as goal
 
 abbrev pub invariant-loop-i : goal.invariant-loop-i

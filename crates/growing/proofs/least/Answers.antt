@@ -1,13 +1,11 @@
-use Prim.Native.Nat.{◌-◌, ◌+◌, ◌≤◌}
+use Prim.Native.Nat.{◌-◌, ◌+◌}
 use mathlib.Core.Path.{◌≡◌, refl, sym, ap, ◌∙◌}
-use mathlib.Core.Bool.{false}
 use native.Mathlib.Omega.{arith}
-use lib.ListN.{take, get_or}
 use lib.Seq.{slice}
-use lib.Ieee.{Float, inf, nan, nan_bits, of_bits}
+use lib.Ieee.{Float, nan_bits, of_bits}
 use Rattle.columns.proofs.Columns.{column_length}
 use Rattle.cells.specs.Tables.{touched, cnt}
-use Rattle.growing.specs.Growing.{least_in, lesser_of, step_from}
+use Rattle.growing.specs.Growing.{least_in, lesser_of}
 use Rattle.growing.proofs.Laws.{least_turn, least_end}
 use Rattle.growing.proofs.least.Goals as goal
 

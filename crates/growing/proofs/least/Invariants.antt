@@ -1,15 +1,12 @@
 -- `growing::least` meets its contract. The invariant: the least of the steps from i on and of that so far is the answer.
-use Prim.Native.Nat.{◌-◌, ◌+◌, ◌≤◌}
-use mathlib.Core.Path.{◌≡◌, refl, sym, ap, ◌∙◌}
+use Prim.Native.Nat.{◌-◌, ◌≤◌}
+use mathlib.Core.Path.{◌≡◌}
 use mathlib.Core.Bool.{false}
-use native.Mathlib.Omega.{arith}
-use lib.ListN.{take, get_or}
+use lib.ListN.{take}
 use lib.Seq.{slice}
-use lib.Ieee.{Float, inf, nan, nan_bits, of_bits}
-use Rattle.columns.proofs.Columns.{column_length}
+use lib.Ieee.{inf}
 use Rattle.cells.specs.Tables.{touched, cnt}
-use Rattle.growing.specs.Growing.{least_in, lesser_of, step_from}
-use Rattle.growing.proofs.Laws.{least_turn, least_end}
+use Rattle.growing.specs.Growing.{least_in}
 use Rattle.growing.proofs.least.Given as goal
 
 abbrev pub invariant-loop-i : goal.invariant-loop-i

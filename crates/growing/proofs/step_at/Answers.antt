@@ -1,7 +1,6 @@
 -- `growing::step_at` meets its contract.
 use mathlib.Core.Path.{ap}
 use lib.Ieee.{binary64, sub, mul}
-use borrow.Author.Rules.{rules}
 use Rattle.growing.proofs.step_at.Goals as goal
 
 pub share-requires : goal.share-requires

@@ -6,7 +6,6 @@ use Rattle.columns.proofs.Columns.{keep_then, keep_more}
 use Rattle.cells.specs.Tables.{fresh}
 use Rattle.growth_round.proofs.Whole.{touching}
 use Rattle.growth_round.proofs.Rows.{fresh_long, checking, stuck_named, held, settling, cooling, staying, rep_next, tree_kept, flags_kept, stacks_kept}
-use borrow.Author.Rules.{rules}
 use Rattle.growth_round.proofs.round.Goals as goal
 
 pub touch-m-requires : goal.touch-m-requires
@@ -22,14 +21,13 @@ stuck-s-requires c =
     checking c.args.tree.now c.args.flags.now c.args.stacks.now c.args.links.now c.requires.space (fresh_long c.args.links.now (le_of_lt c.requires.space.touches)) c.requires.fit.0 c.requires.fit.1 c.requires.rep c.touch-m.ensures.0 c.touch-m.ensures.1 c.touch-m.ensures.2 c.touch-m.ensures.3 c.touch-m.ensures.4
 
 pub returns-then-s : goal.returns-then-s
-returns-then-s c =
-    (
-      record { stuck_is = c.stuck-s.ensures ∙ stuck_named c.args.tree.now c.args.flags.now c.args.stacks.now c.args.links.now c.requires.space (fresh_long c.args.links.now (le_of_lt c.requires.space.touches)) c.requires.fit.0 c.requires.fit.1 c.requires.rep c.touch-m.ensures.0 c.touch-m.ensures.1 c.touch-m.ensures.2 c.touch-m.ensures.3 c.touch-m.ensures.4; held = λ z. held c.args.tree.now c.args.flags.now c.args.stacks.now c.args.links.now c.requires.space (fresh_long c.args.links.now (le_of_lt c.requires.space.touches)) c.requires.fit.0 c.requires.fit.1 c.requires.rep c.touch-m.ensures.0 c.touch-m.ensures.1 c.touch-m.ensures.2 c.touch-m.ensures.3 c.touch-m.ensures.4; moved = λ q. absurd (c.if-s.true q) },
-      keep_more 0 (0 ∷ 1 ∷ []) refl c.touch-m.ensures.1,
-      keep_more _ (1 ∷ 2 ∷ 3 ∷ 4 ∷ []) refl c.touch-m.ensures.2,
-      keep_more 0 (1 ∷ 2 ∷ 3 ∷ []) refl c.touch-m.ensures.3,
-      keep_more 0 (0 ∷ 1 ∷ 2 ∷ []) refl c.touch-m.ensures.4,
-    )
+returns-then-s c = (
+  record { stuck_is = c.stuck-s.ensures ∙ stuck_named c.args.tree.now c.args.flags.now c.args.stacks.now c.args.links.now c.requires.space (fresh_long c.args.links.now (le_of_lt c.requires.space.touches)) c.requires.fit.0 c.requires.fit.1 c.requires.rep c.touch-m.ensures.0 c.touch-m.ensures.1 c.touch-m.ensures.2 c.touch-m.ensures.3 c.touch-m.ensures.4; held = λ z. held c.args.tree.now c.args.flags.now c.args.stacks.now c.args.links.now c.requires.space (fresh_long c.args.links.now (le_of_lt c.requires.space.touches)) c.requires.fit.0 c.requires.fit.1 c.requires.rep c.touch-m.ensures.0 c.touch-m.ensures.1 c.touch-m.ensures.2 c.touch-m.ensures.3 c.touch-m.ensures.4; moved = λ q. absurd (c.if-s.true q) },
+  keep_more 0 (0 ∷ 1 ∷ []) refl c.touch-m.ensures.1,
+  keep_more _ (1 ∷ 2 ∷ 3 ∷ 4 ∷ []) refl c.touch-m.ensures.2,
+  keep_more 0 (1 ∷ 2 ∷ 3 ∷ []) refl c.touch-m.ensures.3,
+  keep_more 0 (0 ∷ 1 ∷ 2 ∷ []) refl c.touch-m.ensures.4,
+)
 
 pub settle-k-requires : goal.settle-k-requires
 settle-k-requires c =
@@ -65,15 +63,14 @@ pub shape_of-links : goal.shape_of-links
 shape_of-links c = (keep_then 0 (keep_more 0 (0 ∷ 1 ∷ 2 ∷ []) refl c.touch-m.ensures.4) (keep_more 0 (0 ∷ 1 ∷ 2 ∷ []) refl c.settle-k.ensures.4)).long
 
 pub returns : goal.returns
-returns c =
-    (
-      record {
-        stuck_is = sym c.if-s.false ∙ c.stuck-s.ensures ∙ stuck_named c.args.tree.now c.args.flags.now c.args.stacks.now c.args.links.now c.requires.space (fresh_long c.args.links.now (le_of_lt c.requires.space.touches)) c.requires.fit.0 c.requires.fit.1 c.requires.rep c.touch-m.ensures.0 c.touch-m.ensures.1 c.touch-m.ensures.2 c.touch-m.ensures.3 c.touch-m.ensures.4;
-        held = λ z. absurd (z refl);
-        moved = λ q. rep_next c.args.tree.now c.args.flags.now c.args.stacks.now c.args.links.now c.requires.space (fresh_long c.args.links.now (le_of_lt c.requires.space.touches)) c.requires.fit.0 c.requires.fit.1 c.requires.rep c.touch-m.ensures.0 c.touch-m.ensures.1 c.touch-m.ensures.2 c.touch-m.ensures.3 c.touch-m.ensures.4 c.settle-k.ensures.0 c.settle-k.auto.growth c.settle-k.ensures.1 c.settle-k.ensures.2 c.settle-k.ensures.3 c.cool.ensures.0 c.cool.ensures.1 c.still-b.ensures.0 c.still-b.ensures.1 c.still-b.ensures.2 c.still-b.ensures.3;
-      },
-      tree_kept c.args.tree.now c.args.flags.now c.args.stacks.now c.args.links.now c.requires.space (fresh_long c.args.links.now (le_of_lt c.requires.space.touches)) c.requires.fit.0 c.requires.fit.1 c.requires.rep c.touch-m.ensures.0 c.touch-m.ensures.1 c.touch-m.ensures.2 c.touch-m.ensures.3 c.touch-m.ensures.4 c.settle-k.ensures.0 c.settle-k.auto.growth c.settle-k.ensures.1 c.settle-k.ensures.2 c.settle-k.ensures.3 c.cool.ensures.0 c.cool.ensures.1 c.still-b.ensures.0 c.still-b.ensures.1 c.still-b.ensures.2 c.still-b.ensures.3,
-      flags_kept c.args.tree.now c.args.flags.now c.args.stacks.now c.args.links.now c.requires.space (fresh_long c.args.links.now (le_of_lt c.requires.space.touches)) c.requires.fit.0 c.requires.fit.1 c.requires.rep c.touch-m.ensures.0 c.touch-m.ensures.1 c.touch-m.ensures.2 c.touch-m.ensures.3 c.touch-m.ensures.4 c.settle-k.ensures.0 c.settle-k.auto.growth c.settle-k.ensures.1 c.settle-k.ensures.2 c.settle-k.ensures.3 c.cool.ensures.0 c.cool.ensures.1 c.still-b.ensures.0 c.still-b.ensures.1 c.still-b.ensures.2 c.still-b.ensures.3,
-      stacks_kept c.args.tree.now c.args.flags.now c.args.stacks.now c.args.links.now c.requires.space (fresh_long c.args.links.now (le_of_lt c.requires.space.touches)) c.requires.fit.0 c.requires.fit.1 c.requires.rep c.touch-m.ensures.0 c.touch-m.ensures.1 c.touch-m.ensures.2 c.touch-m.ensures.3 c.touch-m.ensures.4 c.settle-k.ensures.0 c.settle-k.auto.growth c.settle-k.ensures.1 c.settle-k.ensures.2 c.settle-k.ensures.3 c.cool.ensures.0 c.cool.ensures.1 c.still-b.ensures.0 c.still-b.ensures.1 c.still-b.ensures.2 c.still-b.ensures.3,
-      (keep_then 0 (keep_more 0 (0 ∷ 1 ∷ 2 ∷ []) refl c.touch-m.ensures.4) (keep_more 0 (0 ∷ 1 ∷ 2 ∷ []) refl c.settle-k.ensures.4)),
-    )
+returns c = (
+  record {
+    stuck_is = sym c.if-s.false ∙ c.stuck-s.ensures ∙ stuck_named c.args.tree.now c.args.flags.now c.args.stacks.now c.args.links.now c.requires.space (fresh_long c.args.links.now (le_of_lt c.requires.space.touches)) c.requires.fit.0 c.requires.fit.1 c.requires.rep c.touch-m.ensures.0 c.touch-m.ensures.1 c.touch-m.ensures.2 c.touch-m.ensures.3 c.touch-m.ensures.4;
+    held = λ z. absurd (z refl);
+    moved = λ q. rep_next c.args.tree.now c.args.flags.now c.args.stacks.now c.args.links.now c.requires.space (fresh_long c.args.links.now (le_of_lt c.requires.space.touches)) c.requires.fit.0 c.requires.fit.1 c.requires.rep c.touch-m.ensures.0 c.touch-m.ensures.1 c.touch-m.ensures.2 c.touch-m.ensures.3 c.touch-m.ensures.4 c.settle-k.ensures.0 c.settle-k.auto.growth c.settle-k.ensures.1 c.settle-k.ensures.2 c.settle-k.ensures.3 c.cool.ensures.0 c.cool.ensures.1 c.still-b.ensures.0 c.still-b.ensures.1 c.still-b.ensures.2 c.still-b.ensures.3;
+  },
+  tree_kept c.args.tree.now c.args.flags.now c.args.stacks.now c.args.links.now c.requires.space (fresh_long c.args.links.now (le_of_lt c.requires.space.touches)) c.requires.fit.0 c.requires.fit.1 c.requires.rep c.touch-m.ensures.0 c.touch-m.ensures.1 c.touch-m.ensures.2 c.touch-m.ensures.3 c.touch-m.ensures.4 c.settle-k.ensures.0 c.settle-k.auto.growth c.settle-k.ensures.1 c.settle-k.ensures.2 c.settle-k.ensures.3 c.cool.ensures.0 c.cool.ensures.1 c.still-b.ensures.0 c.still-b.ensures.1 c.still-b.ensures.2 c.still-b.ensures.3,
+  flags_kept c.args.tree.now c.args.flags.now c.args.stacks.now c.args.links.now c.requires.space (fresh_long c.args.links.now (le_of_lt c.requires.space.touches)) c.requires.fit.0 c.requires.fit.1 c.requires.rep c.touch-m.ensures.0 c.touch-m.ensures.1 c.touch-m.ensures.2 c.touch-m.ensures.3 c.touch-m.ensures.4 c.settle-k.ensures.0 c.settle-k.auto.growth c.settle-k.ensures.1 c.settle-k.ensures.2 c.settle-k.ensures.3 c.cool.ensures.0 c.cool.ensures.1 c.still-b.ensures.0 c.still-b.ensures.1 c.still-b.ensures.2 c.still-b.ensures.3,
+  stacks_kept c.args.tree.now c.args.flags.now c.args.stacks.now c.args.links.now c.requires.space (fresh_long c.args.links.now (le_of_lt c.requires.space.touches)) c.requires.fit.0 c.requires.fit.1 c.requires.rep c.touch-m.ensures.0 c.touch-m.ensures.1 c.touch-m.ensures.2 c.touch-m.ensures.3 c.touch-m.ensures.4 c.settle-k.ensures.0 c.settle-k.auto.growth c.settle-k.ensures.1 c.settle-k.ensures.2 c.settle-k.ensures.3 c.cool.ensures.0 c.cool.ensures.1 c.still-b.ensures.0 c.still-b.ensures.1 c.still-b.ensures.2 c.still-b.ensures.3,
+  (keep_then 0 (keep_more 0 (0 ∷ 1 ∷ 2 ∷ []) refl c.touch-m.ensures.4) (keep_more 0 (0 ∷ 1 ∷ 2 ∷ []) refl c.settle-k.ensures.4)),
+)

@@ -3,7 +3,6 @@ use mathlib.Core.Path.{sym, ◌∙◌}
 use Rattle.columns.proofs.Columns.{keep_length}
 use Rattle.cells.specs.Tables.{active}
 use Rattle.growth_round.proofs.Settling.{growing, ready, merging, settled}
-use borrow.Author.Rules.{rules}
 use Rattle.growth_round.proofs.settle.Goals as goal
 
 pub least-step-requires : goal.least-step-requires

@@ -1,7 +1,6 @@
 -- `growth_round::touch` meets its contract: the front, and the edges that it counts.
 use Rattle.columns.proofs.Columns.{keep_length}
 use Rattle.growth_round.proofs.Touching.{fronting, counting, touched_of}
-use borrow.Author.Rules.{rules}
 use Rattle.growth_round.proofs.touch.Goals as goal
 
 pub front-f-requires : goal.front-f-requires

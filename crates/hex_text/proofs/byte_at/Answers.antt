@@ -2,7 +2,6 @@
 use mathlib.Core.Path.{sym}
 use native.Mathlib.Omega.{arith}
 use Rattle.hex_text.proofs.Bytes.{byte_count, byte_is}
-use borrow.Author.Rules.{rules}
 use Rattle.hex_text.proofs.byte_at.Goals as goal
 
 pub overflow_mul-high : goal.overflow_mul-high

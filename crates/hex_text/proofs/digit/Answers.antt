@@ -2,7 +2,6 @@
 use mathlib.Core.Path.{sym, ◌∙◌}
 use native.Mathlib.Omega.{arith}
 use Rattle.hex_text.proofs.Bytes.{between_facts}
-use borrow.Author.Rules.{rules}
 use Rattle.hex_text.proofs.digit.Goals as goal
 
 pub overflow_sub-result : goal.overflow_sub-result

@@ -1,6 +1,5 @@
 -- `hex::digit_of`: by the test.
 use borrow.Author.Tests.{lt-ltb, le-ltb}
-use borrow.Author.Rules.{rules}
 use Rattle.hex_text.proofs.digit_of.Goals as goal
 
 pub returns-then-v-lt10 : goal.returns-then-v-lt10

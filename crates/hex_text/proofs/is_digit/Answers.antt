@@ -1,6 +1,5 @@
 -- `hex::is_digit`: one range, else the other.
 use mathlib.Core.Path.{sym, ◌∙◌}
-use borrow.Author.Rules.{rules}
 use Rattle.hex_text.proofs.is_digit.Goals as goal
 
 pub returns-then-between : goal.returns-then-between

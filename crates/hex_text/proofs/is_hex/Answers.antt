@@ -1,9 +1,7 @@
 use Prim.Native.Nat.{◌-◌}
-use mathlib.Core.Path.{◌≡◌, sym, ◌∙◌}
-use lib.ListN.{length, drop}
+use mathlib.Core.Path.{sym, ◌∙◌}
 use borrow.Author.Tests.{eq-eqb, ne_eqb, not-true, not-false}
-use borrow.Author.Rules.{rules}
-use Rattle.hex_text.specs.Hex.{all_digits, is_hex}
+use Rattle.hex_text.specs.Hex.{is_hex}
 use Rattle.hex_text.proofs.Bytes.{digits_next, digits_end}
 use mathlib.Core.Path.{ap}
 use mathlib.Core.Bool.{not}

@@ -1,11 +1,8 @@
 -- `hex::is_hex`: the digits from i on decide.
 use Prim.Native.Nat.{◌-◌}
-use mathlib.Core.Path.{◌≡◌, sym, ◌∙◌}
+use mathlib.Core.Path.{◌≡◌}
 use lib.ListN.{length, drop}
-use borrow.Author.Tests.{eq-eqb, ne_eqb, not-true, not-false}
-use borrow.Author.Rules.{rules}
 use Rattle.hex_text.specs.Hex.{all_digits, is_hex}
-use Rattle.hex_text.proofs.Bytes.{digits_next, digits_end}
 use Rattle.hex_text.proofs.is_hex.Given as goal
 
 abbrev pub invariant-loop-i : goal.invariant-loop-i

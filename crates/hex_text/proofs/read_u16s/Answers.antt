@@ -1,11 +1,9 @@
-use Prim.Native.Nat.{◌+◌, ◌-◌, ◌*◌, ◌≤◌}
-use mathlib.Core.Path.{◌≡◌, refl, sym, ◌∙◌}
+use Prim.Native.Nat.{◌+◌, ◌-◌, ◌*◌}
+use mathlib.Core.Path.{refl, sym, ◌∙◌}
 use native.Mathlib.Nat.{add-zero}
 use native.Mathlib.Omega.{arith}
-use lib.ListN.{length, drop, length-set}
-use lib.Seq.{sets}
-use borrow.Author.Rules.{rules}
-use Rattle.hex_text.specs.Hex.{bytes_of, numbers}
+use lib.ListN.{drop, length-set}
+use Rattle.hex_text.specs.Hex.{bytes_of}
 use Rattle.hex_text.proofs.Bytes.{byte_count}
 use Rattle.hex_text.proofs.Runs.{run_turn, run_end, run_start}
 use Rattle.hex_text.proofs.read_u16s.Goals as goal

@@ -1,13 +1,9 @@
 -- `hex::read_u64s`: what is left to store makes the whole.
 use Prim.Native.Nat.{◌+◌, ◌-◌, ◌*◌, ◌≤◌}
-use mathlib.Core.Path.{◌≡◌, refl, sym, ◌∙◌}
-use native.Mathlib.Omega.{arith}
-use lib.ListN.{length, drop, length-set}
+use mathlib.Core.Path.{◌≡◌}
+use lib.ListN.{length, drop}
 use lib.Seq.{sets}
-use borrow.Author.Rules.{rules}
 use Rattle.hex_text.specs.Hex.{bytes_of, numbers}
-use Rattle.hex_text.proofs.Bytes.{byte_count}
-use Rattle.hex_text.proofs.Runs.{run_turn, run_end, run_start}
 use Rattle.hex_text.proofs.read_u64s.Given as goal
 
 abbrev pub invariant-loop-i : goal.invariant-loop-i

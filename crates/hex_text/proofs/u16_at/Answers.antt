@@ -4,7 +4,6 @@ use native.Mathlib.Nat.{zero-add}
 use native.Mathlib.Omega.{arith}
 use Rattle.hex_text.specs.Hex.{bytes_of, number}
 use Rattle.hex_text.proofs.Bytes.{byte_count, two_bytes}
-use borrow.Author.Rules.{rules}
 use Rattle.hex_text.proofs.u16_at.Goals as goal
 
 pub overflow_add-i : goal.overflow_add-i

@@ -2,7 +2,6 @@
 use native.Mathlib.Omega.{arith}
 use Rattle.hex_text.specs.Hex.{bytes_of}
 use Rattle.hex_text.proofs.Bytes.{byte_count, eight_bytes}
-use borrow.Author.Rules.{rules}
 use Rattle.hex_text.proofs.u64_at.Goals as goal
 
 pub overflow_add-i : goal.overflow_add-i

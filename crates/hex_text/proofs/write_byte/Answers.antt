@@ -3,7 +3,6 @@ use native.Mathlib.Numerals.{add-one}
 use native.Mathlib.Omega.{arith}
 use lib.ListN.{length-set}
 use Rattle.hex_text.specs.Hex.{text_of}
-use borrow.Author.Rules.{rules}
 use Rattle.hex_text.proofs.write_byte.Goals as goal
 
 pub bounds-out-next : goal.bounds-out-next

@@ -1,10 +1,6 @@
-use Prim.Native.Nat.{◌+◌, ◌-◌, ◌*◌, ◌≤◌}
-use mathlib.Core.Path.{◌≡◌, refl, sym, ◌∙◌}
+use Prim.Native.Nat.{◌-◌}
+use mathlib.Core.Path.{refl, sym, ◌∙◌}
 use native.Mathlib.Omega.{arith}
-use lib.ListN.{length}
-use lib.Seq.{sets}
-use borrow.Author.Rules.{rules}
-use Rattle.hex_text.specs.Hex.{text_of, bytes_in}
 use Rattle.hex_text.proofs.Runs.{byte_turn, byte_end}
 use Rattle.hex_text.proofs.write_number.Goals as goal
 

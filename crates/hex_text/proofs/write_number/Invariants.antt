@@ -1,12 +1,9 @@
 -- `hex::write_number`: the bytes that are left make the whole.
 use Prim.Native.Nat.{◌+◌, ◌-◌, ◌*◌, ◌≤◌}
-use mathlib.Core.Path.{◌≡◌, refl, sym, ◌∙◌}
-use native.Mathlib.Omega.{arith}
+use mathlib.Core.Path.{◌≡◌}
 use lib.ListN.{length}
 use lib.Seq.{sets}
-use borrow.Author.Rules.{rules}
 use Rattle.hex_text.specs.Hex.{text_of, bytes_in}
-use Rattle.hex_text.proofs.Runs.{byte_turn, byte_end}
 use Rattle.hex_text.proofs.write_number.Given as goal
 
 abbrev pub invariant-loop-left : goal.invariant-loop-left

@@ -1,10 +1,6 @@
-use Prim.Native.Nat.{◌+◌, ◌-◌, ◌*◌, ◌≤◌}
-use mathlib.Core.Path.{◌≡◌, refl, sym, ◌∙◌}
+use Prim.Native.Nat.{◌-◌}
+use mathlib.Core.Path.{refl, sym, ◌∙◌}
 use native.Mathlib.Omega.{arith}
-use lib.ListN.{length, drop}
-use lib.Seq.{sets}
-use borrow.Author.Rules.{rules}
-use Rattle.hex_text.specs.Hex.{text_of, bytes_each}
 use Rattle.hex_text.proofs.Texts.{each_turn, each_end}
 use Rattle.hex_text.proofs.write_u64s.Goals as goal
 

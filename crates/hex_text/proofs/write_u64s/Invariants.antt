@@ -1,12 +1,9 @@
 -- `hex::write_u64s`: the numbers that are left make the whole.
 use Prim.Native.Nat.{◌+◌, ◌-◌, ◌*◌, ◌≤◌}
-use mathlib.Core.Path.{◌≡◌, refl, sym, ◌∙◌}
-use native.Mathlib.Omega.{arith}
+use mathlib.Core.Path.{◌≡◌}
 use lib.ListN.{length, drop}
 use lib.Seq.{sets}
-use borrow.Author.Rules.{rules}
 use Rattle.hex_text.specs.Hex.{text_of, bytes_each}
-use Rattle.hex_text.proofs.Texts.{each_turn, each_end}
 use Rattle.hex_text.proofs.write_u64s.Given as goal
 
 abbrev pub invariant-loop-i : goal.invariant-loop-i

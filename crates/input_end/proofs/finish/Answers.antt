@@ -1,14 +1,12 @@
 -- `input_end::finish`: the end, behind the answer to a last line that is begun.
-use Prim.Native.Nat.{ℕ, ◌-◌, ◌≤◌}
-use mathlib.Core.Path.{◌∙◌}
+use Prim.Native.Nat.{◌-◌}
 use mathlib.Core.List.{[]}
 use native.Mathlib.Omega.{arith}
-use lib.ListN.{length, length-take}
+use lib.ListN.{length-take}
 use borrow.Rule.Slice.PartMut.{same_len_mid}
 use Rattle.edges.specs.Tables.{slices}
 use Rattle.reader.specs.Columns.{columns_of}
 use Rattle.input_end.proofs.Ends.{kept_failures, end_only, after_long, end_refused, end_few, end_failures, end_room, end_sum, end_long, end_on}
-use borrow.Author.Rules.{rules}
 use Rattle.input_end.proofs.finish.Goals as goal
 
 pub write_end-requires : goal.write_end-requires

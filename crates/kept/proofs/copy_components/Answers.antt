@@ -1,13 +1,10 @@
-use Prim.Native.Nat.{ℕ, ◌+◌, ◌-◌, ◌≤◌}
-use mathlib.Core.Path.{◌≡◌, refl, sym, ap, ap₂, ◌∙◌}
-use mathlib.Core.List.{List}
+use Prim.Native.Nat.{ℕ, ◌+◌, ◌-◌}
+use mathlib.Core.Path.{◌≡◌, refl, sym, ap₂, ◌∙◌}
 use native.Mathlib.Nat.{add-sub_cancel_left}
 use native.Mathlib.Omega.{arith}
-use lib.ListN.{length, get_or, take, drop, length-take, length-drop}
-use borrow.Author.Rules.{rules}
+use lib.ListN.{get_or, take, drop, length-take, length-drop}
 use Rattle.dem.specs.Positions.{total}
-use Rattle.kept.specs.Columns.{kept_parts, Copied}
-use Rattle.kept.proofs.Copying.{Pasting, paste_none, paste_kept, paste_left, paste_long, pasted_long}
+use Rattle.kept.proofs.Copying.{paste_none, paste_kept, paste_left}
 use Rattle.kept.proofs.Sums.{sum_none, sum_next, sum_upto}
 use Rattle.kept.proofs.copy_components.Goals as goal
 

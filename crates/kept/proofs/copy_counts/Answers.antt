@@ -1,10 +1,8 @@
-use Prim.Native.Nat.{ℕ, ◌+◌, ◌-◌, ◌≤◌}
-use mathlib.Core.Path.{◌≡◌, refl, sym, ap, ◌∙◌}
+use Prim.Native.Nat.{ℕ, ◌-◌}
+use mathlib.Core.Path.{◌≡◌, refl}
 use native.Mathlib.Omega.{arith}
-use lib.ListN.{length, get_or, length-set}
-use borrow.Author.Rules.{rules}
-use Rattle.kept.specs.Columns.{Copied}
-use Rattle.kept.proofs.Copying.{Copying, copy_none, copy_kept, copy_left, copy_long}
+use lib.ListN.{get_or, length-set}
+use Rattle.kept.proofs.Copying.{copy_none, copy_kept, copy_left}
 use Rattle.kept.proofs.copy_counts.Goals as goal
 
 pub loop-i-init : goal.loop-i-init

@@ -1,11 +1,8 @@
 -- `kept::copy_counts`: the first i mechanisms are done.
-use Prim.Native.Nat.{ℕ, ◌+◌, ◌-◌, ◌≤◌}
-use mathlib.Core.Path.{◌≡◌, refl, sym, ap, ◌∙◌}
-use native.Mathlib.Omega.{arith}
-use lib.ListN.{length, get_or, length-set}
-use borrow.Author.Rules.{rules}
-use Rattle.kept.specs.Columns.{Copied}
-use Rattle.kept.proofs.Copying.{Copying, copy_none, copy_kept, copy_left, copy_long}
+use Prim.Native.Nat.{◌-◌, ◌≤◌}
+use mathlib.Core.Path.{◌≡◌}
+use lib.ListN.{length, get_or}
+use Rattle.kept.proofs.Copying.{Copying}
 use Rattle.kept.proofs.copy_counts.Given as goal
 
 abbrev pub invariant-loop-i : goal.invariant-loop-i

@@ -1,14 +1,12 @@
-use Prim.Native.Nat.{ℕ, ◌+◌, ◌-◌, ◌≤◌}
-use mathlib.Core.Path.{◌≡◌, refl, sym, ap, ap₂, ◌∙◌}
+use Prim.Native.Nat.{ℕ, ◌+◌, ◌-◌}
+use mathlib.Core.Path.{◌≡◌, refl, ap, ap₂, ◌∙◌}
 use native.Mathlib.Omega.{arith}
-use lib.ListN.{length, get_or, take, drop, length-take, length-drop, length-set}
-use borrow.Author.Rules.{rules}
+use lib.ListN.{take, drop, length-take, length-drop, length-set}
 use Rattle.dem.specs.declared.Place.{Place}
 use Rattle.dem.specs.Tables.{components_in, entries_in}
 use Rattle.dem.specs.Positions.{tables, head_of, place_of, place_past}
 use Rattle.dem.proofs.Positions.{reached_of, inside_of, past_inside, place_next, entries_le}
-use Rattle.kept.specs.Columns.{Copied, Sized, Listed}
-use Rattle.kept.proofs.Copying.{Copying, copy_none, copy_kept, copy_left, Pasting, paste_none, paste_kept, paste_left}
+use Rattle.kept.proofs.Copying.{copy_none, copy_kept, copy_left, paste_none, paste_kept, paste_left}
 use Rattle.kept.proofs.copy_entries.Goals as goal
 
 pub loop-i-init : goal.loop-i-init

@@ -1,15 +1,10 @@
 -- `kept::copy_entries`: the first i mechanisms are done, and the place is that of mechanism i.
-use Prim.Native.Nat.{ℕ, ◌+◌, ◌-◌, ◌≤◌}
-use mathlib.Core.Path.{◌≡◌, refl, sym, ap, ap₂, ◌∙◌}
-use native.Mathlib.Omega.{arith}
-use lib.ListN.{length, get_or, take, drop, length-take, length-drop, length-set}
-use borrow.Author.Rules.{rules}
-use Rattle.dem.specs.declared.Place.{Place}
-use Rattle.dem.specs.Tables.{components_in, entries_in}
-use Rattle.dem.specs.Positions.{tables, head_of, place_of, place_past}
-use Rattle.dem.proofs.Positions.{reached_of, inside_of, past_inside, place_next, entries_le}
-use Rattle.kept.specs.Columns.{Copied, Sized, Listed}
-use Rattle.kept.proofs.Copying.{Copying, copy_none, copy_kept, copy_left, Pasting, paste_none, paste_kept, paste_left}
+use Prim.Native.Nat.{◌-◌, ◌≤◌}
+use mathlib.Core.Path.{◌≡◌}
+use lib.ListN.{length}
+use Rattle.dem.specs.Tables.{entries_in}
+use Rattle.dem.specs.Positions.{tables, place_of}
+use Rattle.kept.proofs.Copying.{Copying, Pasting}
 use Rattle.kept.proofs.copy_entries.Given as goal
 
 abbrev pub invariant-loop-i : goal.invariant-loop-i

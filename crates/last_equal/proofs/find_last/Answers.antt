@@ -1,18 +1,16 @@
-use Prim.Native.Nat.{ℕ, ◌+◌, ◌-◌, ◌≤◌, ◌<◌}
-use mathlib.Core.Path.{◌≡◌, refl, sym, ap, ◌∙◌}
+use Prim.Native.Nat.{ℕ, ◌-◌}
+use mathlib.Core.Path.{sym, ◌∙◌}
 use mathlib.Core.Bool.{true}
 use native.Mathlib.Omega.{arith}
 use lib.ListN.{length, get_or}
-use borrow.Author.Rules.{rules}
 use Rattle.lists.proofs.Truth.{same_eqb}
 use Rattle.dem.specs.Decompose.{same_symptom}
 use Rattle.cover.specs.Kept.{symptom_at, starts_with, detectors_at}
 use Rattle.cover.proofs.Chain.{starts_is, first_below}
-use Rattle.cover.specs.Search.{previous}
-use Rattle.last_equal.specs.Last.{symptom_in, Findable}
+use Rattle.last_equal.specs.Last.{symptom_in}
 use Rattle.cover.proofs.Turn.{previous_le}
 use Rattle.last_equal.proofs.Same.{same_starts, same_detectors}
-use Rattle.last_equal.proofs.Chain.{Finding, find_begin, find_next, find_hit, find_end}
+use Rattle.last_equal.proofs.Chain.{find_begin, find_next, find_hit, find_end}
 use Rattle.last_equal.proofs.find_last.Goals as goal
 
 pub offset_bounds-entries-first : goal.offset_bounds-entries-first

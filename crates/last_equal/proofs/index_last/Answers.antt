@@ -1,10 +1,8 @@
-use Prim.Native.Nat.{ℕ, ◌+◌, ◌-◌, ◌≤◌}
-use mathlib.Core.Path.{◌≡◌, refl, sym, ap, ◌∙◌, subst}
+use Prim.Native.Nat.{◌+◌, ◌-◌}
+use mathlib.Core.Path.{◌≡◌, refl, ◌∙◌}
 use native.Mathlib.Omega.{arith}
 use lib.ListN.{length}
-use borrow.Author.Rules.{rules}
 use Rattle.cover.specs.Kept.{detectors_at}
-use Rattle.last_equal.specs.Last.{Chained, Linkable}
 use Rattle.last_equal.proofs.Chain.{chain_none, fewer}
 use Rattle.last_equal.proofs.index_last.Goals as goal
 

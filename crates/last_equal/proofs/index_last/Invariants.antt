@@ -1,12 +1,9 @@
 -- `last_equal::index_last`: the first mechanisms are in their chains.
-use Prim.Native.Nat.{ℕ, ◌+◌, ◌-◌, ◌≤◌}
-use mathlib.Core.Path.{◌≡◌, refl, sym, ap, ◌∙◌, subst}
-use native.Mathlib.Omega.{arith}
+use Prim.Native.Nat.{◌-◌, ◌≤◌}
+use mathlib.Core.Path.{◌≡◌}
 use lib.ListN.{length}
-use borrow.Author.Rules.{rules}
 use Rattle.cover.specs.Kept.{detectors_at}
-use Rattle.last_equal.specs.Last.{Chained, Linkable}
-use Rattle.last_equal.proofs.Chain.{chain_none, fewer}
+use Rattle.last_equal.specs.Last.{Chained}
 use Rattle.last_equal.proofs.index_last.Given as goal
 
 abbrev pub invariant-loop-next : goal.invariant-loop-next

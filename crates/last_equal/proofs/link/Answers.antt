@@ -1,12 +1,9 @@
 -- `last_equal::link`: the mechanism is the last of the chain of its first detector.
-use Prim.Native.Nat.{ℕ, ◌+◌}
-use mathlib.Core.Path.{◌≡◌, refl, sym, ap, ◌∙◌}
 use native.Mathlib.Omega.{arith}
 use lib.ListN.{length, get_or}
 use Rattle.cover.specs.Kept.{detectors_at}
 use Rattle.cover.proofs.Chain.{starts_is, starts_none, first_below}
 use Rattle.last_equal.proofs.Chain.{link_none, link_one}
-use borrow.Author.Rules.{rules}
 use Rattle.last_equal.proofs.link.Goals as goal
 
 pub overflow_cast-start : goal.overflow_cast-start

@@ -1,10 +1,8 @@
 -- `last_equal::same_at`: both lists, one after the other.
-use Prim.Native.Nat.{ℕ, ◌+◌}
-use mathlib.Core.Path.{◌≡◌, refl, sym, ap, ◌∙◌}
+use mathlib.Core.Path.{ap}
 use lib.ListN.{get_or}
 use borrow.Author.Tests.{not-true, not-false}
 use Rattle.last_equal.proofs.Same.{same_parts}
-use borrow.Author.Rules.{rules}
 use mathlib.Core.Bool.{not}
 use Rattle.last_equal.proofs.same_at.Goals as goal
 

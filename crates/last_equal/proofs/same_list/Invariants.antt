@@ -1,12 +1,8 @@
 -- `last_equal::same_list`: the entries from i on are equal just where all are.
-use Prim.Native.Nat.{ℕ, ◌+◌, ◌-◌, ◌≤◌}
-use mathlib.Core.Path.{◌≡◌, refl, sym, ap, ◌∙◌}
-use native.Mathlib.Omega.{arith}
-use lib.ListN.{length, get_or, drop}
-use borrow.Author.Rules.{rules}
-use borrow.Author.Tests.{eq-eqb, ne_eqb}
+use Prim.Native.Nat.{◌-◌}
+use mathlib.Core.Path.{◌≡◌}
+use lib.ListN.{length, drop}
 use Rattle.dem.specs.Decompose.{same_list}
-use Rattle.last_equal.proofs.Same.{lengths_differ, same_turn, same_end}
 use Rattle.last_equal.proofs.same_list.Given as goal
 
 abbrev pub invariant-loop-i : goal.invariant-loop-i

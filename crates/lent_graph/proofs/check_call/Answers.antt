@@ -10,7 +10,6 @@ use Rattle.codes.proofs.Checks.{counts_within}
 use Rattle.lent_graph.proofs.Laws.{long}
 use Rattle.lent_graph.specs.Call.{lent_of, graph_in, tables_in, check_rows}
 use Rattle.lent_graph.proofs.Checks.{call_by}
-use borrow.Author.Rules.{rules}
 use mathlib.Core.Path.{ap}
 use mathlib.Core.Bool.{not}
 use Rattle.lent_graph.proofs.check_call.Goals as goal

@@ -1,12 +1,10 @@
-use Prim.Native.Nat.{◌-◌, ◌*◌, ◌+◌, ◌≤◌, ◌<◌}
-use mathlib.Core.Path.{◌≡◌, refl, sym, ap, ◌∙◌}
+use Prim.Native.Nat.{◌-◌}
+use mathlib.Core.Path.{sym, ◌∙◌}
 use native.Mathlib.Omega.{arith}
 use native.Mathlib.Nat.{sub-zero}
 use lib.ListN.{length, length-take, length-drop}
 use borrow.Author.Rules.{rules}
-use Rattle.lists.specs.Lists.{from, below}
-use Rattle.bits.specs.Rows.{words}
-use Rattle.steps.specs.Call.{graph_of, check_edges}
+use Rattle.lists.specs.Lists.{below}
 use Rattle.lent_graph.proofs.Edges.{edges_turn, edges_end, inside}
 use Rattle.lent_graph.proofs.check_edges.Goals as goal
 

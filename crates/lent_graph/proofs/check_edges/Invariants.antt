@@ -1,14 +1,8 @@
 -- `lent_graph::check_edges`: the check from the next edge on is the whole check.
-use Prim.Native.Nat.{◌-◌, ◌*◌, ◌+◌, ◌≤◌, ◌<◌}
-use mathlib.Core.Path.{◌≡◌, refl, sym, ap, ◌∙◌}
-use native.Mathlib.Omega.{arith}
-use native.Mathlib.Nat.{sub-zero}
-use lib.ListN.{length, length-take, length-drop}
-use borrow.Author.Rules.{rules}
+use Prim.Native.Nat.{◌-◌, ◌≤◌}
+use mathlib.Core.Path.{◌≡◌}
 use Rattle.lists.specs.Lists.{from, below}
-use Rattle.bits.specs.Rows.{words}
 use Rattle.steps.specs.Call.{graph_of, check_edges}
-use Rattle.lent_graph.proofs.Edges.{edges_turn, edges_end, inside}
 use Rattle.lent_graph.proofs.check_edges.Given as goal
 
 abbrev pub invariant-loop-next : goal.invariant-loop-next

@@ -5,7 +5,6 @@ use mathlib.Core.Bool.{true, false}
 use lib.Dec.{eqb}
 use Rattle.codes.specs.declared.Checked.TheVariants.{Accepted, Refused}
 use Rattle.lent_graph.proofs.Checks.{unpacked, rows_by}
-use borrow.Author.Rules.{rules}
 use Rattle.lent_graph.proofs.check_rows.Goals as goal
 
 pub returns-in-Refused : goal.returns-in-Refused

@@ -1,14 +1,11 @@
 -- `lent_graph::observables_fit` meets its contract: only the last word has padding.
-use mathlib.Core.Path.{◌≡◌, refl, ap, sym, ◌∙◌}
-use Prim.Native.Nat.{ℕ, ◌+◌, ◌-◌, ◌*◌, ◌%◌, ◌/◌, ◌^◌, ◌<◌, ◌≤◌}
+use mathlib.Core.Path.{refl, sym}
+use Prim.Native.Nat.{◌-◌, ◌%◌, ◌/◌}
 use native.Mathlib.Omega.{arith}
 use lib.Pow.{pow_pos}
-use lib.Dec.{leb}
-use lib.ListN.{length, get_or}
-use Rattle.bits.specs.Rows.{words, is_clear}
+use Rattle.bits.specs.Rows.{words}
 use Rattle.bits.proofs.Word.{shl_one}
 use Rattle.bits.proofs.Rows.{clear_whole, clear_last}
-use borrow.Author.Rules.{rules}
 use Rattle.lent_graph.proofs.observables_fit.Goals as goal
 
 pub returns-then-tail-eq0 : goal.returns-then-tail-eq0

@@ -1,13 +1,10 @@
 -- `lent_graph::tables_long` meets its contract: each return rewrites by the tests that led there.
-use mathlib.Core.Path.{ap, sym, ◌∙◌}
 use Prim.Native.Nat.{◌≤◌}
 use native.Mathlib.Omega.{arith}
 use native.Mathlib.Nat.{mul-le-mul}
 use borrow.Author.Tests.{le-leb, lt-leb}
 use Rattle.bits.specs.Rows.{words}
-use Rattle.bits.proofs.Word.{words_tight}
 use Rattle.lent_graph.specs.Lent.{tables_long}
-use borrow.Author.Rules.{rules}
 use Rattle.lent_graph.proofs.tables_long.Goals as goal
 
 pub returns-then-edge_u-edges : goal.returns-then-edge_u-edges

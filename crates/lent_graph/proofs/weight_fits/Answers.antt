@@ -2,7 +2,7 @@
 use mathlib.Core.Path.{◌≡◌}
 use mathlib.Core.Bool.{true, false}
 use lib.IntN.{pos}
-use lib.Ieee.{Float, inf, fin, of_bits, nan_bits, le, eq}
+use lib.Ieee.{fin, of_bits, nan_bits, le}
 use Rattle.weight.specs.Weight.{weight_fits}
 use Rattle.lent_graph.proofs.weight_fits.Goals as goal
 

@@ -1,5 +1,5 @@
 -- `limit_runs::ends`: byte by byte.
-use Rattle.std.proofs.Common.{◌≡◌, ◌-◌, ◌≤◌, length, arith, rules}
+use Rattle.std.proofs.Common.{◌≡◌, ◌-◌, ◌≤◌, length}
 use Rattle.limit_runs.proofs.ends.Given as goal
 
 abbrev pub invariant-loop-i : goal.invariant-loop-i

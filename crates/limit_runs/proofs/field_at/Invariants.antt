@@ -1,5 +1,5 @@
 -- `limit_runs::field_at`: bar by bar.
-use Rattle.std.proofs.Common.{◌-◌, ◌≤◌, length, arith}
+use Rattle.std.proofs.Common.{◌-◌, ◌≤◌, length}
 use Rattle.limit_runs.proofs.field_at.Given as goal
 
 abbrev pub invariant-loop-k : goal.invariant-loop-k

@@ -1,5 +1,5 @@
 -- `limit_runs::find`: byte by byte.
-use Rattle.std.proofs.Common.{◌-◌, ◌≤◌, length, arith}
+use Rattle.std.proofs.Common.{◌-◌, ◌≤◌, length}
 use Rattle.limit_runs.proofs.find.Given as goal
 
 abbrev pub invariant-loop-i : goal.invariant-loop-i

@@ -1,4 +1,4 @@
-use Rattle.std.proofs.Common.{◌-◌, ◌≤◌, length, arith}
+use Rattle.std.proofs.Common.{◌-◌}
 use Rattle.limit_runs.proofs.run.Goals as goal
 
 pub run_case-requires : goal.run_case-requires

@@ -1,5 +1,5 @@
 -- `limit_runs::run`: line by line.
-use Rattle.std.proofs.Common.{◌-◌, ◌≤◌, length, arith}
+use Rattle.std.proofs.Common.{◌-◌, ◌≤◌, length}
 use Rattle.limit_runs.proofs.run.Given as goal
 
 abbrev pub invariant-loop-at : goal.invariant-loop-at

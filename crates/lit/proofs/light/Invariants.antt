@@ -1,13 +1,10 @@
 -- `lit::light` meets its contract. Assumes nothing.
-use Prim.Native.Nat.{ℕ, ◌-◌, ◌+◌, ◌≤◌, ◌<◌}
-use mathlib.Core.Path.{◌≡◌, refl, sym, ap, ◌∙◌}
-use mathlib.Core.List.{List, [], ◌∷◌}
-use mathlib.Core.Bool.{Bool, true, false, ◌||◌}
-use native.Mathlib.Omega.{arith}
-use lib.ListN.{length, get_or, set, take}
-use Rattle.columns.proofs.Columns.{column_length, keep_none, keep_then, keep_more}
+use Prim.Native.Nat.{ℕ, ◌-◌, ◌≤◌}
+use mathlib.Core.Path.{◌≡◌}
+use mathlib.Core.List.{[], ◌∷◌}
+use mathlib.Core.Bool.{false, ◌||◌}
+use lib.ListN.{get_or, take}
 use Rattle.cells.specs.Tables.{lits, odds, knowns, hots, defects, active, seen, SameFlags, SameStacks}
-use Rattle.lit.proofs.Lights.{light_next, light_start, list_next}
 use Rattle.lists.specs.Lists.{member}
 use Rattle.lit.proofs.light.Given as goal
 

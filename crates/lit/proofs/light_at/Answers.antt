@@ -1,10 +1,9 @@
 -- `lit::light_at` meets its contract. Assumes nothing.
-use mathlib.Core.Path.{◌≡◌, refl, ap, ◌∙◌}
+use mathlib.Core.Path.{refl, ◌∙◌}
 use mathlib.Core.Bool.{false}
 use mathlib.Core.List.{[], ◌∷◌}
 use native.Mathlib.Omega.{arith}
 use Rattle.columns.proofs.Columns.{keep_then, keep_more}
-use borrow.Author.Rules.{rules}
 use Rattle.lit.proofs.light_at.Goals as goal
 
 pub set_flag-requires : goal.set_flag-requires

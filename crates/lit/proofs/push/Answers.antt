@@ -1,9 +1,8 @@
 -- `lit::push` meets its contract. Assumes nothing.
-use mathlib.Core.Path.{◌≡◌, refl, ap, ◌∙◌}
+use mathlib.Core.Path.{refl, ◌∙◌}
 use mathlib.Core.List.{[], ◌∷◌}
 use native.Mathlib.Omega.{arith}
 use Rattle.columns.proofs.Columns.{keep_then, keep_more}
-use borrow.Author.Rules.{rules}
 use Rattle.lit.proofs.push.Goals as goal
 
 pub set_stack-requires : goal.set_stack-requires

@@ -2,7 +2,6 @@
 use borrow.Author.Tests.{le-leb, lt-leb}
 use mathlib.Core.Path.{sym}
 use Rattle.marker.specs.Answer.{marker_long}
-use borrow.Author.Rules.{rules}
 use Rattle.marker.proofs.long.Goals as goal
 
 pub returns-then-row-words : goal.returns-then-row-words

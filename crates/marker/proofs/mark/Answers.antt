@@ -1,11 +1,9 @@
 -- `marker::mark` meets its contract: the check's refusal, or the judge's answer on sub-slices that are as long as the counts need.
-use mathlib.Core.Path.{◌≡◌, refl, sym, ap, ◌∙◌}
+use mathlib.Core.Path.{sym, ◌∙◌}
 use native.Mathlib.Omega.{arith}
-use lib.ListN.{length}
 use Rattle.lent_graph.specs.Call.{lent_of}
 use Rattle.marker.proofs.Marks.{part_long, checked_by, refused, rooms, ready, answers, untouched, in_table, written, marked}
 use Rattle.marker.proofs.Verdicts.{differs_not_pass, refused_not_pass}
-use borrow.Author.Rules.{rules}
 use Rattle.marker.proofs.mark.Goals as goal
 
 pub returns-in-Refused : goal.returns-in-Refused

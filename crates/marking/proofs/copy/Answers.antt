@@ -1,9 +1,8 @@
 use Prim.Native.Nat.{◌-◌}
-use mathlib.Core.Path.{◌≡◌, refl}
+use mathlib.Core.Path.{refl}
 use native.Mathlib.Omega.{arith}
-use lib.ListN.{length, length-set}
-use borrow.Author.Rules.{rules}
-use Rattle.marking.proofs.Words.{over, over_turn, over_end}
+use lib.ListN.{length-set}
+use Rattle.marking.proofs.Words.{over_turn, over_end}
 use Rattle.marking.proofs.copy.Goals as goal
 
 pub loop-i-init : goal.loop-i-init

@@ -1,10 +1,8 @@
 -- `marking::copy` meets its contract: the words of one row over the other, one after another.
 use Prim.Native.Nat.{◌-◌}
-use mathlib.Core.Path.{◌≡◌, refl}
-use native.Mathlib.Omega.{arith}
-use lib.ListN.{length, length-set}
-use borrow.Author.Rules.{rules}
-use Rattle.marking.proofs.Words.{over, over_turn, over_end}
+use mathlib.Core.Path.{◌≡◌}
+use lib.ListN.{length}
+use Rattle.marking.proofs.Words.{over}
 use Rattle.marking.proofs.copy.Given as goal
 
 abbrev pub invariant-loop-i : goal.invariant-loop-i

@@ -7,7 +7,6 @@ use lib.ListN.{length, length-set}
 use borrow.Author.Tests.{eq-eqb, ne_eqb}
 use Rattle.bits.specs.Rows.{flip_bit}
 use Rattle.marking.specs.Passes.{flip_ends}
-use borrow.Author.Rules.{rules}
 use Rattle.marking.proofs.flip_ends.Goals as goal
 
 pub returns-then-v-eq-BOUNDARY : goal.returns-then-v-eq-BOUNDARY

@@ -4,7 +4,6 @@ use native.Mathlib.Omega.{arith}
 use borrow.Author.Tests.{not-true, not-false}
 use Rattle.marking.specs.declared.Bit.TheVariants.{At, Nothing}
 use Rattle.marking.proofs.Judged.{unmet, few_words, unfit_list, fit_list}
-use borrow.Author.Rules.{rules}
 use mathlib.Core.Path.{ap}
 use mathlib.Core.Bool.{not}
 use Rattle.marking.proofs.judge.Goals as goal

@@ -1,12 +1,9 @@
-use Prim.Native.Nat.{◌≤◌, ◌-◌, ◌*◌}
-use mathlib.Core.Path.{◌≡◌, refl, ◌∙◌}
+use Prim.Native.Nat.{◌-◌}
+use mathlib.Core.Path.{refl, ◌∙◌}
 use native.Mathlib.Omega.{arith}
-use lib.ListN.{length, get_or}
+use lib.ListN.{get_or}
 use borrow.Author.Rules.{rules}
-use Rattle.bits.specs.Rows.{set_bits}
-use Rattle.bits.proofs.Listed.{rest_bits}
 use Rattle.bits.proofs.Lowest.{trailing_lt}
-use Rattle.marking.specs.Passes.{lowest_of}
 use Rattle.marking.proofs.LowestBit.{lowest_start, lowest_zero, lowest_here, lowest_end}
 use Rattle.marking.proofs.lowest.Goals as goal
 

@@ -1,14 +1,10 @@
 -- `marking::lowest` meets its contract: the lowest of the words from here on is the lowest of all.
 use Prim.Native.Nat.{◌≤◌, ◌-◌, ◌*◌}
-use mathlib.Core.Path.{◌≡◌, refl, ◌∙◌}
-use native.Mathlib.Omega.{arith}
-use lib.ListN.{length, get_or}
-use borrow.Author.Rules.{rules}
+use mathlib.Core.Path.{◌≡◌}
+use lib.ListN.{length}
 use Rattle.bits.specs.Rows.{set_bits}
 use Rattle.bits.proofs.Listed.{rest_bits}
-use Rattle.bits.proofs.Lowest.{trailing_lt}
 use Rattle.marking.specs.Passes.{lowest_of}
-use Rattle.marking.proofs.LowestBit.{lowest_start, lowest_zero, lowest_here, lowest_end}
 use Rattle.marking.proofs.lowest.Given as goal
 
 abbrev pub invariant-loop-next : goal.invariant-loop-next

@@ -7,7 +7,7 @@ use borrow.Author.Rules.{rules}
 use Rattle.lists.proofs.Truth.{clash}
 use Rattle.steps.specs.Marker.{fit}
 use Rattle.marking.specs.Passes.{met_after, wrong_after}
-use Rattle.marking.proofs.Meeting.{Meeting, unknown, repeated, turn}
+use Rattle.marking.proofs.Meeting.{unknown, repeated, turn}
 use Rattle.marking.proofs.meet.Goals as goal
 
 pub loop-left-init : goal.loop-left-init

@@ -1,12 +1,8 @@
 -- `marking::write_row` meets its contract: the row is the XOR of the edges from here on.
-use Prim.Native.Nat.{ℕ, ◌≤◌, ◌-◌, ◌*◌}
-use mathlib.Core.Path.{◌≡◌, refl, sym, ap, ◌∙◌}
-use native.Mathlib.Omega.{arith}
-use lib.ListN.{length, drop, replicate, length-replicate}
-use lib.Seq.{drop-length}
-use borrow.Author.Rules.{rules}
+use Prim.Native.Nat.{◌≤◌, ◌-◌}
+use mathlib.Core.Path.{◌≡◌}
+use lib.ListN.{length, drop}
 use Rattle.marking.specs.Passes.{xor_rows}
-use Rattle.marking.proofs.Xors.{in_table, length_xors, xors_turn}
 use Rattle.marking.proofs.write_row.Given as goal
 
 abbrev pub invariant-loop-left : goal.invariant-loop-left

@@ -1,10 +1,8 @@
-use Prim.Native.Nat.{ℕ, ◌-◌, ◌≤◌}
-use mathlib.Core.Path.{◌≡◌, refl, sym, ◌∙◌}
+use Prim.Native.Nat.{◌-◌}
+use mathlib.Core.Path.{sym, ◌∙◌}
 use native.Mathlib.Omega.{arith}
-use lib.ListN.{length, drop}
 use borrow.Author.Tests.{le-leb, lt-leb}
-use borrow.Author.Rules.{rules}
-use Rattle.dem.specs.Model.{ascending, list_fits}
+use Rattle.dem.specs.Model.{list_fits}
 use Rattle.dem.proofs.Checks.{turn_low, turn_high, turn_next, turn_end}
 use Rattle.mechanism_check.proofs.check_list.Goals as goal
 

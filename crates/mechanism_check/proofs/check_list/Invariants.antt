@@ -1,12 +1,8 @@
 -- `mechanism_check::check_list`: the entries from i on ascend from low just where the whole list fits.
-use Prim.Native.Nat.{ℕ, ◌-◌, ◌≤◌}
-use mathlib.Core.Path.{◌≡◌, refl, sym, ◌∙◌}
-use native.Mathlib.Omega.{arith}
+use Prim.Native.Nat.{◌-◌}
+use mathlib.Core.Path.{◌≡◌}
 use lib.ListN.{length, drop}
-use borrow.Author.Tests.{le-leb, lt-leb}
-use borrow.Author.Rules.{rules}
 use Rattle.dem.specs.Model.{ascending, list_fits}
-use Rattle.dem.proofs.Checks.{turn_low, turn_high, turn_next, turn_end}
 use Rattle.mechanism_check.proofs.check_list.Given as goal
 
 abbrev pub invariant-loop-i : goal.invariant-loop-i

@@ -1,8 +1,7 @@
 -- `mechanism_check::check_mechanism`: lists, then probability.
-use mathlib.Core.Path.{◌≡◌, refl, sym, ap, ◌∙◌}
+use mathlib.Core.Path.{ap}
 use borrow.Author.Tests.{not-true, not-false}
 use Rattle.dem.proofs.Checks.{check_parts}
-use borrow.Author.Rules.{rules}
 use mathlib.Core.Bool.{not}
 use Rattle.mechanism_check.proofs.check_mechanism.Goals as goal
 

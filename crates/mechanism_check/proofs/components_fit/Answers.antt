@@ -1,14 +1,9 @@
-use Prim.Native.Nat.{ℕ, ◌+◌, ◌-◌, ◌≤◌}
-use mathlib.Core.Path.{◌≡◌, refl, sym, ap, ◌∙◌}
-use mathlib.Core.List.{List}
-use mathlib.Core.Bool.{◌&&◌}
+use Prim.Native.Nat.{◌-◌}
+use mathlib.Core.Path.{◌≡◌, refl, ap}
 use native.Mathlib.Omega.{arith}
-use lib.ListN.{length, get_or, drop}
-use borrow.Author.Rules.{rules}
 use borrow.Author.Tests.{not-true, not-false}
 use Rattle.dem.specs.Model.{symptoms_fit, symptom_fits}
 use Rattle.dem.specs.Tables.{components_of}
-use Rattle.dem.specs.Positions.{Within}
 use Rattle.dem.proofs.Checks.{fit_turn, first_inside, others_inside}
 use mathlib.Core.Bool.{not}
 use Rattle.mechanism_check.proofs.components_fit.Goals as goal

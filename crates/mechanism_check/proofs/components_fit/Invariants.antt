@@ -1,16 +1,10 @@
 -- `mechanism_check::components_fit`: the components from here on fit just where all do.
-use Prim.Native.Nat.{ℕ, ◌+◌, ◌-◌, ◌≤◌}
-use mathlib.Core.Path.{◌≡◌, refl, sym, ap, ◌∙◌}
-use mathlib.Core.List.{List}
-use mathlib.Core.Bool.{◌&&◌}
-use native.Mathlib.Omega.{arith}
-use lib.ListN.{length, get_or, drop}
-use borrow.Author.Rules.{rules}
-use borrow.Author.Tests.{not-true, not-false}
-use Rattle.dem.specs.Model.{symptoms_fit, symptom_fits}
+use Prim.Native.Nat.{◌-◌}
+use mathlib.Core.Path.{◌≡◌}
+use lib.ListN.{drop}
+use Rattle.dem.specs.Model.{symptoms_fit}
 use Rattle.dem.specs.Tables.{components_of}
 use Rattle.dem.specs.Positions.{Within}
-use Rattle.dem.proofs.Checks.{fit_turn, first_inside, others_inside}
 use Rattle.mechanism_check.proofs.components_fit.Given as goal
 
 abbrev pub invariant-loop-left : goal.invariant-loop-left

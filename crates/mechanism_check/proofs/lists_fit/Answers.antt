@@ -1,8 +1,7 @@
 -- `mechanism_check::lists_fit`: its own lists, the number of components, and theirs.
-use mathlib.Core.Path.{◌≡◌, refl, sym, ap, ◌∙◌}
+use mathlib.Core.Path.{ap}
 use borrow.Author.Tests.{not-true, not-false, le-leb, lt-leb}
 use Rattle.dem.proofs.Checks.{lists_parts}
-use borrow.Author.Rules.{rules}
 use mathlib.Core.Bool.{not}
 use Rattle.mechanism_check.proofs.lists_fit.Goals as goal
 

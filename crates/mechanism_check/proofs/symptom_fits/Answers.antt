@@ -1,8 +1,7 @@
 -- `mechanism_check::symptom_fits`: a list after the other.
-use mathlib.Core.Path.{◌≡◌, refl, sym, ap, ◌∙◌}
+use mathlib.Core.Path.{ap}
 use borrow.Author.Tests.{not-true, not-false}
 use Rattle.dem.proofs.Checks.{symptom_parts}
-use borrow.Author.Rules.{rules}
 use mathlib.Core.Bool.{not}
 use Rattle.mechanism_check.proofs.symptom_fits.Goals as goal
 

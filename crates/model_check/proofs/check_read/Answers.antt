@@ -5,7 +5,6 @@ use lib.IntN.{pos}
 use lib.Ieee.{fin}
 use lib.ListN.{replicate}
 use Rattle.model_check.proofs.ReadModel.{bits_short, column_short, checked_refused, checked_accepted}
-use borrow.Author.Rules.{rules}
 use Rattle.model_check.proofs.check_read.Goals as goal
 
 pub returns-then-probability_bits-mechanisms : goal.returns-then-probability_bits-mechanisms

@@ -1,13 +1,9 @@
 -- `model_check::probabilities`: the first i entries are done.
-use Prim.Native.Nat.{ℕ, ◌+◌, ◌-◌, ◌≤◌}
-use mathlib.Core.Path.{◌≡◌, refl, ap, ◌∙◌}
-use mathlib.Core.List.{List, ◌++◌, map}
-use native.Mathlib.Omega.{arith}
-use lib.ListN.{length, take, drop, set, length-set}
-use lib.Ieee.{Float, nan}
-use borrow.Author.Rules.{rules}
+use Prim.Native.Nat.{◌+◌, ◌-◌, ◌≤◌}
+use mathlib.Core.Path.{◌≡◌}
+use mathlib.Core.List.{◌++◌, map}
+use lib.ListN.{length, take, drop}
 use Rattle.model_check.specs.Bits.{probability_of}
-use Rattle.model_check.proofs.Columns.{column_turn}
 use Rattle.model_check.proofs.probabilities.Given as goal
 
 abbrev pub invariant-loop-i : goal.invariant-loop-i

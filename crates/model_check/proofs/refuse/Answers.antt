@@ -1,7 +1,6 @@
 -- `model_check::refuse`: the column filled with zero.
 use mathlib.Core.Path.{refl}
 use lib.Ieee.{of_bits}
-use borrow.Author.Rules.{rules}
 use Rattle.model_check.proofs.refuse.Goals as goal
 
 pub returns : goal.returns

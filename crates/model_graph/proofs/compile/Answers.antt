@@ -1,7 +1,6 @@
 -- `model_graph::compile`: the call on scratch of its own.
 use lib.Ieee.{of_bits}
 use Rattle.model_graph.proofs.Answers.{bare}
-use borrow.Author.Rules.{rules}
 use Rattle.model_graph.proofs.compile.Goals as goal
 
 pub returns : goal.returns

@@ -3,7 +3,6 @@ use mathlib.Core.Path.{refl}
 use lib.Ieee.{of_bits}
 use Rattle.dem.specs.Positions.{tables}
 use Rattle.model_graph.proofs.Answers.{scratch_is, refused_read, accepted_read}
-use borrow.Author.Rules.{rules}
 use Rattle.model_graph.proofs.decompose_read.Goals as goal
 
 pub returns-in-Refused : goal.returns-in-Refused

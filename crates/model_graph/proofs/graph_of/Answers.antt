@@ -1,8 +1,6 @@
 -- `model_graph::graph_of`: decomposed, then compiled.
-use mathlib.Core.Path.{refl}
 use lib.Ieee.{of_bits}
 use Rattle.model_graph.proofs.Answers.{tables_held, refused_zero, graph_refused, graph_compiled}
-use borrow.Author.Rules.{rules}
 use Rattle.model_graph.proofs.graph_of.Goals as goal
 
 pub decompose_read-decomposed-requires : goal.decompose_read-decomposed-requires

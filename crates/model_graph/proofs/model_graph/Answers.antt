@@ -1,7 +1,6 @@
 -- `model_graph::model_graph`: the columns taken out, then the graph.
 use native.Mathlib.Omega.{arith}
 use Rattle.model_graph.proofs.Answers.{held_is, graph_by_lem}
-use borrow.Author.Rules.{rules}
 use Rattle.model_graph.proofs.model_graph.Goals as goal
 
 pub column_of-detector_counts-requires : goal.column_of-detector_counts-requires

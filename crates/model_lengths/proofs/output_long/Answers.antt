@@ -2,7 +2,6 @@
 use Rattle.dem.specs.Tables.{columns_hold, lists_hold}
 use Rattle.dem.specs.Positions.{tables}
 use Rattle.model_lengths.proofs.Tests.{both, not_first}
-use borrow.Author.Rules.{rules}
 use Rattle.model_lengths.proofs.output_long.Goals as goal
 
 pub returns-then-columns : goal.returns-then-columns

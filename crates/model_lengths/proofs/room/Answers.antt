@@ -2,7 +2,6 @@
 use mathlib.Core.Path.{refl}
 use Rattle.dem.specs.Positions.{tables}
 use Rattle.model_lengths.proofs.Places.{places_are}
-use borrow.Author.Rules.{rules}
 use Rattle.model_lengths.proofs.room.Goals as goal
 
 pub returns : goal.returns

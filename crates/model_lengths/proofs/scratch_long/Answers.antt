@@ -1,6 +1,5 @@
 -- `model_lengths::scratch_long`: each test in turn.
 use Rattle.decompose.specs.Call.{scratch_long}
-use borrow.Author.Rules.{rules}
 use Rattle.model_lengths.proofs.scratch_long.Goals as goal
 
 pub returns : goal.returns

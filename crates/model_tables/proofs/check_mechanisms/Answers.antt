@@ -1,12 +1,11 @@
-use Prim.Native.Nat.{ℕ, ◌+◌, ◌-◌, ◌≤◌}
-use mathlib.Core.Path.{◌≡◌, refl, sym, ap, ap₂, ◌∙◌}
+use Prim.Native.Nat.{◌+◌, ◌-◌}
+use mathlib.Core.Path.{refl, sym, ap, ◌∙◌}
 use native.Mathlib.Omega.{arith}
-use borrow.Author.Rules.{rules}
 use Rattle.codes.specs.declared.Checked.{Checked}
 use Rattle.codes.specs.Order.{and_then}
 use Rattle.dem.specs.Model.{check_model}
 use Rattle.dem.specs.Tables.{model_of, components_in, entries_in}
-use Rattle.dem.specs.Positions.{tables, head_of, place_of, tables_from, place_past}
+use Rattle.dem.specs.Positions.{tables, head_of, place_of, tables_from}
 use Rattle.dem.proofs.Positions.{reached_of, inside_of, past_inside, place_next, check_first, check_turn, check_last}
 use Rattle.model_tables.proofs.check_mechanisms.Goals as goal
 

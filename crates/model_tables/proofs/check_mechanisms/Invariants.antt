@@ -1,14 +1,9 @@
 -- `model_tables::check_mechanisms`: the place is that of mechanism i, and the check from i on is the whole check.
-use Prim.Native.Nat.{ℕ, ◌+◌, ◌-◌, ◌≤◌}
-use mathlib.Core.Path.{◌≡◌, refl, sym, ap, ap₂, ◌∙◌}
-use native.Mathlib.Omega.{arith}
-use borrow.Author.Rules.{rules}
-use Rattle.codes.specs.declared.Checked.{Checked}
-use Rattle.codes.specs.Order.{and_then}
+use Prim.Native.Nat.{◌-◌, ◌≤◌}
+use mathlib.Core.Path.{◌≡◌}
 use Rattle.dem.specs.Model.{check_model}
-use Rattle.dem.specs.Tables.{model_of, components_in, entries_in}
-use Rattle.dem.specs.Positions.{tables, head_of, place_of, tables_from, place_past}
-use Rattle.dem.proofs.Positions.{reached_of, inside_of, past_inside, place_next, check_first, check_turn, check_last}
+use Rattle.dem.specs.Tables.{model_of}
+use Rattle.dem.specs.Positions.{tables, place_of, tables_from}
 use Rattle.model_tables.proofs.check_mechanisms.Given as goal
 
 abbrev pub invariant-loop-i : goal.invariant-loop-i

@@ -1,10 +1,8 @@
 -- `model_tables::check_model`: limits, tables, mechanisms.
-use mathlib.Core.Path.{sym, ◌∙◌}
 use Rattle.codes.specs.declared.Refusal.TheVariants.{Short}
 use Rattle.codes.proofs.Checks.{counts_within, unless_accepted}
 use Rattle.dem.specs.Tables.{tables_hold}
 use Rattle.dem.specs.Positions.{tables}
-use borrow.Author.Rules.{rules}
 use Rattle.model_tables.proofs.check_model.Goals as goal
 
 pub returns-in-Refused : goal.returns-in-Refused

@@ -8,7 +8,6 @@ use borrow.Author.Tests.{not-true, not-false, le-leb, lt-leb}
 use Rattle.dem.specs.Tables.{columns_hold, tables_hold, entries_in}
 use Rattle.dem.specs.Positions.{tables, total}
 use Rattle.dem.proofs.Positions.{columns_alone, lengths, tables_parts, entries_alone}
-use borrow.Author.Rules.{rules}
 use mathlib.Core.Path.{ap}
 use mathlib.Core.Bool.{not}
 use Rattle.model_tables.proofs.check_tables.Goals as goal

@@ -4,7 +4,6 @@ use mathlib.Core.Path.{sym}
 use borrow.Author.Tests.{le-leb, lt-leb}
 use Rattle.packed.proofs.Shots.{too_short, has_room}
 use Rattle.own_slices.proofs.Tests.{none_fits}
-use borrow.Author.Rules.{rules}
 use Rattle.own_slices.proofs.rows_fit.Goals as goal
 
 pub returns-then-w-eq0 : goal.returns-then-w-eq0

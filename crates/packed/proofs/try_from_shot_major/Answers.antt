@@ -5,7 +5,6 @@ use Rattle.bits.specs.Rows.{words}
 use Rattle.codes.specs.declared.Checked.TheVariants.{Accepted, Refused}
 use Rattle.packed.specs.Packed.{check_length, check_padding}
 use Rattle.packed.proofs.Shots.{length_accepted, packed_by_lem}
-use borrow.Author.Rules.{rules}
 use Rattle.packed.proofs.try_from_shot_major.Goals as goal
 
 pub returns-in-Refused : goal.returns-in-Refused

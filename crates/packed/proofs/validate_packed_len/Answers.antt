@@ -2,7 +2,6 @@
 use native.Mathlib.Omega.{arith}
 use lib.ListN.{length}
 use Rattle.packed.proofs.Shots.{accepts_length, refuses_length, product_none, too_short, has_room}
-use borrow.Author.Rules.{rules}
 use Rattle.packed.proofs.validate_packed_len.Goals as goal
 
 pub returns-then-len-eq0 : goal.returns-then-len-eq0

@@ -1,5 +1,5 @@
-use Prim.Native.Nat.{ℕ, ◌-◌, ◌*◌, ◌%◌, ◌+◌, ◌≤◌}
-use mathlib.Core.Path.{◌≡◌, sym, ap, ◌∙◌}
+use Prim.Native.Nat.{ℕ, ◌-◌, ◌*◌, ◌%◌, ◌+◌}
+use mathlib.Core.Path.{sym, ap, ◌∙◌}
 use native.Mathlib.Nat.{sub-zero}
 use native.Mathlib.Omega.{arith}
 use lib.Pow.{pow_pos}
@@ -52,14 +52,13 @@ returns-then-tail_mask-data c =
     ∙ c.loop-shot.invariant.1
 
 pub loop-shot-preserved : goal.loop-shot-preserved
-loop-shot-preserved c =
-    (
-      search rules,
-      padding_clear c.args.«data».now c.args.num_shots c.args.num_measurements c.words-m_words.result c.loop-shot.shot c.requires c.words-m_words.ensures c.if-tail-eq0.false c.loop-shot-test.true
-          (omega (arith, c.shared_slice_known-in-loop-shot-1.given (c.loop-shot.shot * c.words-m_words.result + (c.words-m_words.result - 1))))
-          (omega (arith, shl_one 64 (c.args.num_measurements % 64) (omega arith)))
-          ∙ c.loop-shot.invariant.1,
-    )
+loop-shot-preserved c = (
+  search rules,
+  padding_clear c.args.«data».now c.args.num_shots c.args.num_measurements c.words-m_words.result c.loop-shot.shot c.requires c.words-m_words.ensures c.if-tail-eq0.false c.loop-shot-test.true
+      (omega (arith, c.shared_slice_known-in-loop-shot-1.given (c.loop-shot.shot * c.words-m_words.result + (c.words-m_words.result - 1))))
+      (omega (arith, shl_one 64 (c.args.num_measurements % 64) (omega arith)))
+      ∙ c.loop-shot.invariant.1,
+)
 
 pub returns : goal.returns
 returns c =

@@ -3,11 +3,9 @@ use mathlib.Core.Path.{refl, sym, ◌∙◌}
 use mathlib.Core.List.{[], ◌∷◌}
 use mathlib.Core.Bool.{false}
 use native.Mathlib.Omega.{arith}
-use lib.ListN.{length-set}
 use Rattle.columns.proofs.Columns.{column_length, keep_none, keep_more}
 use Rattle.cells.specs.Tables.{lits}
 use Rattle.peeling.proofs.Unwinding.{close_none, close_dark, close_lit}
-use borrow.Author.Rules.{rules}
 use Rattle.peeling.proofs.close.Goals as goal
 
 pub returns-then-e-eq-NONE : goal.returns-then-e-eq-NONE

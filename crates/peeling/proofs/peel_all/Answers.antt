@@ -5,24 +5,21 @@ use mathlib.Core.Bool.{false}
 use native.Mathlib.Omega.{arith}
 use lib.ListN.{get_or}
 use borrow.Author.Tests.{not-true, not-false}
-use Rattle.forest.specs.Forest.{labels}
 use Rattle.columns.proofs.Columns.{column_length, keep_length, keep_none, keep_more, keep_then}
-use Rattle.cells.specs.Tables.{parents, lits, frees, defects, active, front, order_edge, order_parent, SameTree, SameFlags, SameStacks}
+use Rattle.cells.specs.Tables.{frees}
 use Rattle.walks.proofs.Rows.{moved}
-use Rattle.peeling.specs.Tables.{Same}
-use Rattle.peeling.proofs.Order.{Peeling, start_peel, end_peel, lit_in, x_in, turn_met, tabled, fresh, turn_peel, same_then}
+use Rattle.peeling.proofs.Order.{start_peel, end_peel, lit_in, x_in, turn_met, tabled, fresh, turn_peel, same_then}
 use mathlib.Core.Bool.{not}
 use Rattle.peeling.proofs.peel_all.Goals as goal
 
 pub loop-i-init : goal.loop-i-init
-loop-i-init c =
-    (
-      start_peel c.requires.tabled c.requires.grown c.requires.lit,
-      record { down = c.requires.down; kept = refl; size = refl },
-      keep_more 0 (0 ∷ []) refl (keep_none 0 c.args.tree.now c.requires.wide.0),
-      keep_more false (0 ∷ 4 ∷ []) refl (keep_none false c.args.flags.now c.requires.wide.1),
-      keep_more 0 (2 ∷ 3 ∷ 4 ∷ 5 ∷ []) refl (keep_none 0 c.args.stacks.now c.requires.wide.2),
-    )
+loop-i-init c = (
+  start_peel c.requires.tabled c.requires.grown c.requires.lit,
+  record { down = c.requires.down; kept = refl; size = refl },
+  keep_more 0 (0 ∷ []) refl (keep_none 0 c.args.tree.now c.requires.wide.0),
+  keep_more false (0 ∷ 4 ∷ []) refl (keep_none false c.args.flags.now c.requires.wide.1),
+  keep_more 0 (2 ∷ 3 ∷ 4 ∷ 5 ∷ []) refl (keep_none 0 c.args.stacks.now c.requires.wide.2),
+)
 
 pub stack-x-requires : goal.stack-x-requires
 stack-x-requires c =
@@ -53,14 +50,13 @@ pub loop-i-smaller-then-not-met : goal.loop-i-smaller-then-not-met
 loop-i-smaller-then-not-met c = omega (arith, c.loop-i-test.true)
 
 pub loop-i-preserved-then-not-met : goal.loop-i-preserved-then-not-met
-loop-i-preserved-then-not-met c =
-    (
-      turn_peel c.requires.tabled c.requires.grown c.requires.lit c.loop-i.invariant.0 c.loop-i-test.true (moved (frees c.loop-i.flags) (c.stack-x.ensures ∙ ap (λ l. get_or l c.loop-i.i 0) (c.loop-i.invariant.4.rest 0 refl)) (sym c.flag-met.ensures ∙ not-true _ (ap not c.if-not-met.true))) (rw (c.loop-i.invariant.1.kept, (c.stack-x.ensures ∙ ap (λ l. get_or l c.loop-i.i 0) (c.loop-i.invariant.4.rest 0 refl))) at c.peel_cluster-listed.ensures.done) (keep_length false c.peel_cluster-listed.ensures.same_tree.1 4) (keep_length false c.peel_cluster-listed.ensures.same_tree.1 0) (keep_length 0 c.peel_cluster-listed.ensures.same_tree.2 3) (keep_length 0 c.peel_cluster-listed.ensures.same_tree.2 2) (keep_length 0 c.peel_cluster-listed.ensures.same_tree.2 4) (keep_length 0 c.peel_cluster-listed.ensures.same_tree.2 5) c.peel_cluster-listed.auto.list,
-      same_then c.loop-i.invariant.1 c.peel_cluster-listed.ensures.same,
-      keep_then 0 c.loop-i.invariant.2 c.peel_cluster-listed.ensures.same_tree.0,
-      keep_then false c.loop-i.invariant.3 c.peel_cluster-listed.ensures.same_tree.1,
-      keep_then 0 c.loop-i.invariant.4 c.peel_cluster-listed.ensures.same_tree.2,
-    )
+loop-i-preserved-then-not-met c = (
+  turn_peel c.requires.tabled c.requires.grown c.requires.lit c.loop-i.invariant.0 c.loop-i-test.true (moved (frees c.loop-i.flags) (c.stack-x.ensures ∙ ap (λ l. get_or l c.loop-i.i 0) (c.loop-i.invariant.4.rest 0 refl)) (sym c.flag-met.ensures ∙ not-true _ (ap not c.if-not-met.true))) (rw (c.loop-i.invariant.1.kept, (c.stack-x.ensures ∙ ap (λ l. get_or l c.loop-i.i 0) (c.loop-i.invariant.4.rest 0 refl))) at c.peel_cluster-listed.ensures.done) (keep_length false c.peel_cluster-listed.ensures.same_tree.1 4) (keep_length false c.peel_cluster-listed.ensures.same_tree.1 0) (keep_length 0 c.peel_cluster-listed.ensures.same_tree.2 3) (keep_length 0 c.peel_cluster-listed.ensures.same_tree.2 2) (keep_length 0 c.peel_cluster-listed.ensures.same_tree.2 4) (keep_length 0 c.peel_cluster-listed.ensures.same_tree.2 5) c.peel_cluster-listed.auto.list,
+  same_then c.loop-i.invariant.1 c.peel_cluster-listed.ensures.same,
+  keep_then 0 c.loop-i.invariant.2 c.peel_cluster-listed.ensures.same_tree.0,
+  keep_then false c.loop-i.invariant.3 c.peel_cluster-listed.ensures.same_tree.1,
+  keep_then 0 c.loop-i.invariant.4 c.peel_cluster-listed.ensures.same_tree.2,
+)
 
 pub loop-i-smaller : goal.loop-i-smaller
 loop-i-smaller c = omega (arith, c.loop-i-test.true)

@@ -1,17 +1,10 @@
 -- `peeling::peel_all` meets its contract. The invariant: to peel the clusters left from here is to peel them all from the entry. Assumes nothing.
 use Prim.Native.Nat.{◌-◌}
-use mathlib.Core.Path.{refl, sym, ap, ◌∙◌}
 use mathlib.Core.List.{[], ◌∷◌}
-use mathlib.Core.Bool.{false}
-use native.Mathlib.Omega.{arith}
-use lib.ListN.{get_or}
-use borrow.Author.Tests.{not-true, not-false}
 use Rattle.forest.specs.Forest.{labels}
-use Rattle.columns.proofs.Columns.{column_length, keep_length, keep_none, keep_more, keep_then}
 use Rattle.cells.specs.Tables.{parents, lits, frees, defects, active, front, order_edge, order_parent, SameTree, SameFlags, SameStacks}
-use Rattle.walks.proofs.Rows.{moved}
 use Rattle.peeling.specs.Tables.{Same}
-use Rattle.peeling.proofs.Order.{Peeling, start_peel, end_peel, lit_in, x_in, turn_met, tabled, fresh, turn_peel, same_then}
+use Rattle.peeling.proofs.Order.{Peeling}
 use Rattle.peeling.proofs.peel_all.Given as goal
 
 abbrev pub invariant-loop-i : goal.invariant-loop-i

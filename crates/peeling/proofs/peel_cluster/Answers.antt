@@ -6,7 +6,6 @@ use native.Mathlib.Omega.{arith}
 use lib.ListN.{get_or}
 use Rattle.columns.proofs.Columns.{column_length, keep_length, keep_more, keep_then}
 use Rattle.peeling.proofs.Peels.{a_in, exit_known, start_in, start_new, unwindable, start_lives, close_fits, done}
-use borrow.Author.Rules.{rules}
 use Rattle.peeling.proofs.peel_cluster.Goals as goal
 
 pub find-a-requires : goal.find-a-requires

@@ -1,7 +1,6 @@
 -- `peeling::start_of` meets its contract. Assumes nothing.
 use native.Mathlib.Omega.{arith}
 use borrow.Author.Tests.{eq-eqb, ne_eqb}
-use borrow.Author.Rules.{rules}
 use Rattle.peeling.proofs.start_of.Goals as goal
 
 pub returns-then-e-eq-NONE : goal.returns-then-e-eq-NONE

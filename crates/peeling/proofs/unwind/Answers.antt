@@ -3,9 +3,9 @@ use mathlib.Core.List.{[], ◌∷◌}
 use mathlib.Core.Bool.{false}
 use native.Mathlib.Omega.{arith}
 use Rattle.columns.proofs.Columns.{column_length, keep_none, keep_more, keep_then}
-use Rattle.cells.specs.Tables.{lits, active, order_edge, order_parent, SameFlags}
+use Rattle.cells.specs.Tables.{lits}
 use Rattle.walks.proofs.Rows.{moved}
-use Rattle.peeling.proofs.Unwinding.{Unwinding, start_unwind, end_unwind, vertex_in, parent_in, at_in, turn_dark, turn_lit}
+use Rattle.peeling.proofs.Unwinding.{start_unwind, end_unwind, vertex_in, parent_in, at_in, turn_dark, turn_lit}
 use Rattle.peeling.proofs.unwind.Goals as goal
 
 pub loop-i-init : goal.loop-i-init
@@ -62,11 +62,10 @@ pub loop-i-smaller-then-lit : goal.loop-i-smaller-then-lit
 loop-i-smaller-then-lit c = omega (arith, c.loop-i-test.true)
 
 pub loop-i-preserved-then-lit : goal.loop-i-preserved-then-lit
-loop-i-preserved-then-lit c =
-    (
-      rw (c.set_flag-then-lit.ensures.0, c.flag-b.ensures, c.set_flag.ensures.0, c.stack-x.ensures, c.stack-y.ensures, c.stack.ensures) (turn_lit c.requires.unwindable c.loop-i.invariant.0 c.loop-i-test.true (moved (lits c.loop-i.flags) c.stack-x.ensures (sym c.flag-lit.ensures ∙ c.if-lit.true))),
-      keep_then false c.loop-i.invariant.1 (keep_then false c.set_flag.ensures.1 c.set_flag-then-lit.ensures.1),
-    )
+loop-i-preserved-then-lit c = (
+  rw (c.set_flag-then-lit.ensures.0, c.flag-b.ensures, c.set_flag.ensures.0, c.stack-x.ensures, c.stack-y.ensures, c.stack.ensures) (turn_lit c.requires.unwindable c.loop-i.invariant.0 c.loop-i-test.true (moved (lits c.loop-i.flags) c.stack-x.ensures (sym c.flag-lit.ensures ∙ c.if-lit.true))),
+  keep_then false c.loop-i.invariant.1 (keep_then false c.set_flag.ensures.1 c.set_flag-then-lit.ensures.1),
+)
 
 pub loop-i-smaller : goal.loop-i-smaller
 loop-i-smaller c = omega (arith, c.loop-i-test.true)

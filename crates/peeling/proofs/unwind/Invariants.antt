@@ -1,12 +1,7 @@
 -- `peeling::unwind` meets its contract. The invariant: to unwind the branches left from here is to unwind them all from the entry. Assumes nothing.
-use mathlib.Core.Path.{refl, sym, ◌∙◌}
 use mathlib.Core.List.{[], ◌∷◌}
-use mathlib.Core.Bool.{false}
-use native.Mathlib.Omega.{arith}
-use Rattle.columns.proofs.Columns.{column_length, keep_none, keep_more, keep_then}
 use Rattle.cells.specs.Tables.{lits, active, order_edge, order_parent, SameFlags}
-use Rattle.walks.proofs.Rows.{moved}
-use Rattle.peeling.proofs.Unwinding.{Unwinding, start_unwind, end_unwind, vertex_in, parent_in, at_in, turn_dark, turn_lit}
+use Rattle.peeling.proofs.Unwinding.{Unwinding}
 use Rattle.peeling.proofs.unwind.Given as goal
 
 abbrev pub invariant-loop-i : goal.invariant-loop-i

@@ -1,9 +1,8 @@
 -- `probability::raise`: one entry is stored.
-use mathlib.Core.Path.{refl, ap}
-use lib.Ieee.{Float, nan}
+use mathlib.Core.Path.{ap}
+use lib.Ieee.{Float}
 use lib.ListN.{set}
 use Rattle.probability.specs.Probability.{raised_at}
-use borrow.Author.Rules.{rules}
 use Rattle.probability.proofs.raise.Goals as goal
 
 pub returns : goal.returns

@@ -1,11 +1,8 @@
 -- `probability::raise_all`: p added to the entries from i on gives the answer.
-use Prim.Native.Nat.{ℕ, ◌+◌, ◌-◌, ◌≤◌}
-use mathlib.Core.Path.{◌≡◌, refl, sym, ap, ◌∙◌}
-use native.Mathlib.Omega.{arith}
-use lib.ListN.{length, get_or, drop}
-use borrow.Author.Rules.{rules}
+use Prim.Native.Nat.{◌-◌}
+use mathlib.Core.Path.{◌≡◌}
+use lib.ListN.{length, drop}
 use Rattle.probability.specs.Probability.{raised_all}
-use Rattle.probability.proofs.Raising.{raise_turn, raise_end}
 use Rattle.probability.proofs.raise_all.Given as goal
 
 abbrev pub invariant-loop-i : goal.invariant-loop-i

@@ -7,7 +7,6 @@ use Rattle.codes.specs.declared.Checked.TheVariants.{Accepted, Refused}
 use Rattle.packed.specs.Packed.{check_packed}
 use Rattle.lent_graph.proofs.Checks.{unpacked}
 use Rattle.rate.proofs.Checks.{both_by}
-use borrow.Author.Rules.{rules}
 use Rattle.rate.proofs.check_both.Goals as goal
 
 pub returns-in-Refused : goal.returns-in-Refused

@@ -11,7 +11,6 @@ use Rattle.lent_graph.proofs.Laws.{long}
 use Rattle.lent_graph.specs.Call.{lent_of, graph_in, tables_in}
 use Rattle.rate.specs.Checks.{check_both}
 use Rattle.rate.proofs.Checks.{rate_by}
-use borrow.Author.Rules.{rules}
 use mathlib.Core.Path.{ap}
 use mathlib.Core.Bool.{not}
 use Rattle.rate.proofs.check_rate.Goals as goal

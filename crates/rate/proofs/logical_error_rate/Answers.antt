@@ -10,7 +10,6 @@ use Rattle.batch.specs.Batch.{handed}
 use Rattle.batch.proofs.Calls.{own_is, accepts, scratch, given_rows}
 use Rattle.rate.specs.Rate.{compared}
 use Rattle.rate.proofs.Calls.{checks_by, refused, batch_accepted, comparable, rated}
-use borrow.Author.Rules.{rules}
 use Rattle.rate.proofs.logical_error_rate.Goals as goal
 
 pub returns-in-Refused : goal.returns-in-Refused

@@ -1,12 +1,11 @@
 -- `reader::read_line`: the numbers, the tables, then the line.
-use Prim.Native.Nat.{◌-◌, ◌*◌}
+use Prim.Native.Nat.{◌-◌}
 use mathlib.Core.Path.{sym, ◌∙◌}
 use mathlib.Core.Bool.{true, false}
 use borrow.Author.Tests.{not-true, not-false}
 use Rattle.reader.specs.Columns.{columns_of}
 use Rattle.reader.proofs.Parts.{roomy_by}
 use Rattle.reader.proofs.Reading.{storable, over_read, short_read, refused_read, next_read}
-use borrow.Author.Rules.{rules}
 use mathlib.Core.Path.{ap}
 use mathlib.Core.Bool.{not}
 use Rattle.reader.proofs.read_line.Goals as goal

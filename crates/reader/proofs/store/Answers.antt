@@ -1,5 +1,5 @@
 -- `reader::store`: by the kind.
-use Prim.Native.Nat.{ℕ, ◌-◌, ◌*◌}
+use Prim.Native.Nat.{ℕ, ◌-◌}
 use mathlib.Core.Path.{refl, sym, ap, ◌∙◌}
 use native.Mathlib.Omega.{arith}
 use mathlib.Core.List.{List}
@@ -12,7 +12,6 @@ use Rattle.reader.specs.Columns.{columns_of, stored_frame}
 use Rattle.reader.proofs.Stored.{columns_eq}
 use Rattle.reader.proofs.Parts.{places_of, row_put, row_rest, truth_rest, truth_put, truth_is}
 use Rattle.reader.proofs.Reading.{stored_other}
-use borrow.Author.Rules.{rules}
 use Rattle.reader.proofs.store.Goals as goal
 
 pub store_mechanism-requires : goal.store_mechanism-requires

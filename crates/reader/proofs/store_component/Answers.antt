@@ -1,5 +1,5 @@
 -- `reader::store_component`: an entry in each column, and the lists.
-use Prim.Native.Nat.{ℕ, ◌+◌, ◌-◌, ◌*◌}
+use Prim.Native.Nat.{ℕ, ◌+◌, ◌-◌}
 use mathlib.Core.Path.{refl, sym, ap, ◌∙◌}
 use mathlib.Core.List.{List}
 use native.Mathlib.Omega.{arith}
@@ -10,7 +10,6 @@ use Rattle.columns.specs.Columns.{column}
 use Rattle.reader.specs.Columns.{byte_of}
 use Rattle.frames.proofs.FrameKinds.{long_is, size_is}
 use Rattle.reader.proofs.Reading.{first_long, second_long, listed_is}
-use borrow.Author.Rules.{rules}
 use Rattle.reader.proofs.store_component.Goals as goal
 
 pub byte_at-d-requires : goal.byte_at-d-requires

@@ -1,5 +1,4 @@
 -- `replies::rate_bits`: each return rewrites by the tests that led there.
-use Prim.Native.Nat.{◌<◌}
 use mathlib.Core.Path.{refl}
 use native.Mathlib.Omega.{arith}
 use lib.Ieee.{to_bits, of_bits}

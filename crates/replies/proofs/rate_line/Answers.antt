@@ -1,5 +1,5 @@
 -- `replies::rate_line`: the parts make the line.
-use Prim.Native.Nat.{ℕ, ◌+◌, ◌*◌}
+use Prim.Native.Nat.{ℕ, ◌+◌}
 use mathlib.Core.Path.{refl, ap, ◌∙◌}
 use mathlib.Core.List.{List, [], ◌∷◌, ◌++◌, append_assoc}
 use native.Mathlib.Omega.{arith}
@@ -9,7 +9,6 @@ use Rattle.hex_text.specs.Hex.{text_of, bytes_in}
 use Rattle.hex_text.proofs.Texts.{in_long}
 use Rattle.replies.specs.Replies.{rate_reply}
 use Rattle.replies.proofs.Lines.{joined, line_written}
-use borrow.Author.Rules.{rules}
 use Rattle.replies.proofs.rate_line.Goals as goal
 
 pub shape_of-out : goal.shape_of-out

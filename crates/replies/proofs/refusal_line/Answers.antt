@@ -1,5 +1,5 @@
 -- `replies::refusal_line`: the parts make the line.
-use Prim.Native.Nat.{ℕ, ◌*◌}
+use Prim.Native.Nat.{ℕ}
 use mathlib.Core.Path.{refl, ap, ◌∙◌}
 use mathlib.Core.List.{List, [], ◌∷◌}
 use native.Mathlib.Omega.{arith}
@@ -8,7 +8,6 @@ use lib.Seq.{sets}
 use Rattle.hex_text.specs.Hex.{text_of}
 use Rattle.replies.specs.Replies.{refusal_reply}
 use Rattle.replies.proofs.Lines.{joined, line_written}
-use borrow.Author.Rules.{rules}
 use Rattle.replies.proofs.refusal_line.Goals as goal
 
 pub shape_of-out : goal.shape_of-out

@@ -1,6 +1,5 @@
 -- `replies::write_last`: by how the input ends.
 use Rattle.replies.specs.Last.{last_text}
-use borrow.Author.Rules.{rules}
 use Rattle.replies.proofs.write_last.Goals as goal
 
 pub returns-in-Refused : goal.returns-in-Refused

@@ -5,7 +5,6 @@ use lib.ListN.{length}
 use Rattle.dem.specs.Tables.{written}
 use Rattle.replies.specs.Replies.{line_of, rate_reply}
 use Rattle.replies.specs.Last.{rate_text}
-use borrow.Author.Rules.{rules}
 use Rattle.replies.proofs.write_rate.Goals as goal
 
 pub returns : goal.returns

@@ -1,6 +1,5 @@
 -- `replies::write_refusal`: the line.
 use Rattle.replies.specs.Last.{refusal_text}
-use borrow.Author.Rules.{rules}
 use Rattle.replies.proofs.write_refusal.Goals as goal
 
 pub returns : goal.returns

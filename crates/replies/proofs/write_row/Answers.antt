@@ -9,7 +9,6 @@ use Rattle.hex_text.specs.Hex.{text_of, bytes_each}
 use Rattle.hex_text.proofs.Texts.{each_long}
 use Rattle.replies.specs.Replies.{row_reply}
 use Rattle.replies.proofs.Lines.{joined, line_written}
-use borrow.Author.Rules.{rules}
 use Rattle.replies.proofs.write_row.Goals as goal
 
 pub shape_of-out : goal.shape_of-out

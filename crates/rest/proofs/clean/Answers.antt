@@ -1,14 +1,13 @@
-use Prim.Native.Nat.{◌-◌, ◌≤◌}
+use Prim.Native.Nat.{◌-◌}
 use mathlib.Core.Path.{◌≡◌, sym, ◌∙◌}
 use native.Mathlib.Omega.{arith}
-use lib.Seq.{slice, slice_empty}
+use lib.Seq.{slice_empty}
 use Rattle.growth_state.proofs.Laws.{slice_next}
 use Rattle.adjacency.proofs.Stars.{adj_slice, adj_rising, adj_ends, adj_inside}
-use Rattle.columns.specs.Columns.{Wide}
 use Rattle.columns.proofs.Columns.{column_length}
 use Rattle.cells.specs.Tables.{seen}
 use Rattle.rest.proofs.Cleaned.{clean_of}
-use Rattle.rest.proofs.CleanRows.{UsedRows, many_trees, many_flags, wide_tree, wide_flags, rows_next}
+use Rattle.rest.proofs.CleanRows.{many_trees, many_flags, wide_tree, wide_flags, rows_next}
 use Rattle.rest.proofs.clean.Goals as goal
 
 pub loop-i-init : goal.loop-i-init
@@ -77,13 +76,12 @@ pub loop-i-smaller : goal.loop-i-smaller
 loop-i-smaller c = omega (arith, c.loop-i-test.true)
 
 pub loop-i-preserved : goal.loop-i-preserved
-loop-i-preserved c =
-    (
-      omega (arith, c.loop-i-test.true),
-      rows_next c.loop-i.tree c.loop-i.flags (rw (slice_next c.loop-i.i c.args.n (seen c.args.stacks.now) (omega (arith, c.loop-i-test.true)) c.requires.cleaning.seens, ← c.stack-x.ensures) at c.loop-i.invariant.1) (omega (arith, c.requires.cleaning.inside c.loop-i.i (omega (arith, c.loop-i-test.true)), c.stack-x.ensures)) (rw (adj_slice c.requires.cleaning.adjacent c.stack-x.result (omega (arith, c.requires.cleaning.inside c.loop-i.i (omega (arith, c.loop-i-test.true)), c.stack-x.ensures))) at c.clean_edges.ensures) c.clean_edges.auto.growth c.clean_edges.auto.sat,
-      wide_tree c.stack-x.result c.loop-i.invariant.2,
-      wide_flags c.stack-x.result c.loop-i.invariant.3,
-    )
+loop-i-preserved c = (
+  omega (arith, c.loop-i-test.true),
+  rows_next c.loop-i.tree c.loop-i.flags (rw (slice_next c.loop-i.i c.args.n (seen c.args.stacks.now) (omega (arith, c.loop-i-test.true)) c.requires.cleaning.seens, ← c.stack-x.ensures) at c.loop-i.invariant.1) (omega (arith, c.requires.cleaning.inside c.loop-i.i (omega (arith, c.loop-i-test.true)), c.stack-x.ensures)) (rw (adj_slice c.requires.cleaning.adjacent c.stack-x.result (omega (arith, c.requires.cleaning.inside c.loop-i.i (omega (arith, c.loop-i-test.true)), c.stack-x.ensures))) at c.clean_edges.ensures) c.clean_edges.auto.growth c.clean_edges.auto.sat,
+  wide_tree c.stack-x.result c.loop-i.invariant.2,
+  wide_flags c.stack-x.result c.loop-i.invariant.3,
+)
 
 pub shape_of-tree : goal.shape_of-tree
 shape_of-tree c =

@@ -1,15 +1,9 @@
 -- `rest::clean` meets its contract. Assumes nothing.
 use Prim.Native.Nat.{◌-◌, ◌≤◌}
-use mathlib.Core.Path.{◌≡◌, sym, ◌∙◌}
-use native.Mathlib.Omega.{arith}
-use lib.Seq.{slice, slice_empty}
-use Rattle.growth_state.proofs.Laws.{slice_next}
-use Rattle.adjacency.proofs.Stars.{adj_slice, adj_rising, adj_ends, adj_inside}
+use lib.Seq.{slice}
 use Rattle.columns.specs.Columns.{Wide}
-use Rattle.columns.proofs.Columns.{column_length}
 use Rattle.cells.specs.Tables.{seen}
-use Rattle.rest.proofs.Cleaned.{clean_of}
-use Rattle.rest.proofs.CleanRows.{UsedRows, many_trees, many_flags, wide_tree, wide_flags, rows_next}
+use Rattle.rest.proofs.CleanRows.{UsedRows}
 use Rattle.rest.proofs.clean.Given as goal
 
 abbrev pub invariant-loop-i : goal.invariant-loop-i

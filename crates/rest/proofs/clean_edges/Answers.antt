@@ -1,12 +1,10 @@
-use Prim.Native.Nat.{ℕ, ◌-◌, ◌≤◌}
+use Prim.Native.Nat.{◌-◌}
 use mathlib.Core.Path.{◌≡◌, refl, sym, ◌∙◌}
-use mathlib.Core.Bool.{false, cond}
+use mathlib.Core.Bool.{false}
 use native.Mathlib.Omega.{arith}
-use lib.ListN.{length, get_or, length-set}
-use lib.Seq.{slice}
+use lib.ListN.{length-set}
 use lib.Ieee as Ieee
 use lib.Ieee.{nan}
-use Rattle.lists.specs.Lists.{member}
 use Rattle.columns.proofs.Columns.{column_length}
 use Rattle.adjacency.specs.Pairs.{near}
 use Rattle.growth_state.specs.Rep.{zero64}

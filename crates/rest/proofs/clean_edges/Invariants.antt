@@ -1,17 +1,14 @@
 -- `rest::clean_edges` meets its contract. Assumes nothing.
 use Prim.Native.Nat.{ℕ, ◌-◌, ◌≤◌}
-use mathlib.Core.Path.{◌≡◌, refl, sym, ◌∙◌}
+use mathlib.Core.Path.{◌≡◌}
 use mathlib.Core.Bool.{false, cond}
-use native.Mathlib.Omega.{arith}
-use lib.ListN.{length, get_or, length-set}
+use lib.ListN.{length, get_or}
 use lib.Seq.{slice}
 use lib.Ieee as Ieee
 use lib.Ieee.{nan}
 use Rattle.lists.specs.Lists.{member}
-use Rattle.columns.proofs.Columns.{column_length}
 use Rattle.adjacency.specs.Pairs.{near}
 use Rattle.growth_state.specs.Rep.{zero64}
-use Rattle.rest.proofs.Cleaned.{clear_turn, clear_end}
 use Rattle.rest.proofs.clean_edges.Given as goal
 
 abbrev pub invariant-loop-k : goal.invariant-loop-k

@@ -1,17 +1,16 @@
 -- `rest::reset` meets its contract: the rows and entries of each table filled.
 use lib.Ieee as Ieee
-use mathlib.Core.Path.{◌≡◌, ap, ◌∙◌}
+use mathlib.Core.Path.{ap, ◌∙◌}
 use mathlib.Core.List.{map}
 use native.Mathlib.Omega.{arith}
 use mathlib.Core.Bool.{false}
-use lib.ListN.{length, replicate, length-replicate, length-map}
+use lib.ListN.{length, length-map}
 use Rattle.lists.specs.Lists.{below}
 use Rattle.lists.proofs.Members.{length_below}
 use Rattle.growth_state.specs.Rep.{zero64}
 use Rattle.rest.proofs.Cuts.{cut_length, cut_put, cut_filled}
 use Rattle.rest.specs.Rows.{alone, quiet}
 use Rattle.rest.proofs.Rows.{rested}
-use borrow.Author.Rules.{rules}
 use Rattle.rest.proofs.reset.Goals as goal
 
 pub rest_tree-requires : goal.rest_tree-requires

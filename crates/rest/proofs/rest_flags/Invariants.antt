@@ -1,10 +1,8 @@
 -- `rest::rest_flags` meets its contract. Assumes nothing.
-use Prim.Native.Nat.{ℕ, ◌-◌, ◌+◌, ◌≤◌, ◌<◌}
-use mathlib.Core.Path.{◌≡◌, refl, sym, ap, ◌∙◌}
-use mathlib.Core.List.{List, ◌++◌, append-nil}
-use native.Mathlib.Omega.{arith}
-use lib.ListN.{length, drop, replicate, length-set, drop_of_length-le}
-use Rattle.tables.proofs.Fills.{fill-next}
+use Prim.Native.Nat.{◌-◌, ◌+◌, ◌≤◌}
+use mathlib.Core.Path.{◌≡◌}
+use mathlib.Core.List.{◌++◌}
+use lib.ListN.{length, drop, replicate}
 use Rattle.rest.specs.Rows.{quiet}
 use Rattle.rest.proofs.rest_flags.Given as goal
 

@@ -1,8 +1,8 @@
-use Prim.Native.Nat.{ℕ, ◌-◌, ◌+◌, ◌≤◌, ◌<◌}
-use mathlib.Core.Path.{◌≡◌, refl, sym, ap, ◌∙◌}
-use mathlib.Core.List.{List, ◌++◌, map, append-nil}
+use Prim.Native.Nat.{◌-◌}
+use mathlib.Core.Path.{◌≡◌, refl, ◌∙◌}
+use mathlib.Core.List.{append-nil}
 use native.Mathlib.Omega.{arith}
-use lib.ListN.{length, drop, length-set, drop_of_length-le}
+use lib.ListN.{length, length-set, drop_of_length-le}
 use Rattle.lists.specs.Lists.{below, from}
 use Rattle.rest.specs.Rows.{alone}
 use Rattle.rest.proofs.Rows.{rows_next}

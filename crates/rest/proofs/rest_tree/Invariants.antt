@@ -1,12 +1,10 @@
 -- `rest::rest_tree` meets its contract. Assumes nothing.
-use Prim.Native.Nat.{ℕ, ◌-◌, ◌+◌, ◌≤◌, ◌<◌}
-use mathlib.Core.Path.{◌≡◌, refl, sym, ap, ◌∙◌}
-use mathlib.Core.List.{List, ◌++◌, map, append-nil}
-use native.Mathlib.Omega.{arith}
-use lib.ListN.{length, drop, length-set, drop_of_length-le}
-use Rattle.lists.specs.Lists.{below, from}
+use Prim.Native.Nat.{◌-◌, ◌+◌, ◌≤◌}
+use mathlib.Core.Path.{◌≡◌}
+use mathlib.Core.List.{◌++◌, map}
+use lib.ListN.{length, drop}
+use Rattle.lists.specs.Lists.{below}
 use Rattle.rest.specs.Rows.{alone}
-use Rattle.rest.proofs.Rows.{rows_next}
 use Rattle.rest.proofs.rest_tree.Given as goal
 
 abbrev pub invariant-loop-i : goal.invariant-loop-i

@@ -1,7 +1,6 @@
 -- `scratch::least_lengths` meets its contract.
 use mathlib.Core.Path.{refl}
 use Rattle.scratch.specs.Scratch.{lengths_for}
-use borrow.Author.Rules.{rules}
 use Rattle.scratch.proofs.least_lengths.Goals as goal
 
 pub returns : goal.returns

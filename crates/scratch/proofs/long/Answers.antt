@@ -1,6 +1,5 @@
 -- `scratch::long` meets its contract: each test, from the last slice to the first.
 use Rattle.scratch.proofs.Tests.{all_long}
-use borrow.Author.Rules.{rules}
 use Rattle.scratch.proofs.long.Goals as goal
 
 pub returns : goal.returns

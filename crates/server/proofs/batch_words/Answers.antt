@@ -1,7 +1,6 @@
 -- `server::batch_words` meets its contract, case by case.
-use mathlib.Core.Path.{ap, sym, ◌∙◌}
+use mathlib.Core.Path.{ap, sym}
 use Rattle.server.specs.Words.{words_of_batch}
-use borrow.Author.Rules.{rules}
 use Rattle.server.proofs.batch_words.Goals as goal
 
 pub returns-in-Accepted : goal.returns-in-Accepted

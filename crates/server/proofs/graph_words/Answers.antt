@@ -1,7 +1,6 @@
 -- `server::graph_words` meets its contract, case by case.
-use mathlib.Core.Path.{ap, sym, ◌∙◌}
+use mathlib.Core.Path.{ap, sym}
 use Rattle.server.specs.Words.{words_of_graph}
-use borrow.Author.Rules.{rules}
 use Rattle.server.proofs.graph_words.Goals as goal
 
 pub returns-in-Edges : goal.returns-in-Edges

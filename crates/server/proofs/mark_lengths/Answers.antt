@@ -1,6 +1,5 @@
 -- `server::mark_lengths` meets its contract.
 use mathlib.Core.Path.{refl}
-use borrow.Author.Rules.{rules}
 use Rattle.server.proofs.mark_lengths.Goals as goal
 
 pub returns : goal.returns

@@ -1,7 +1,6 @@
 -- `server::mark_words` meets its contract, case by case.
-use mathlib.Core.Path.{ap, sym, ◌∙◌}
+use mathlib.Core.Path.{ap, sym}
 use Rattle.server.specs.Words.{words_of_mark}
-use borrow.Author.Rules.{rules}
 use Rattle.server.proofs.mark_words.Goals as goal
 
 pub returns-in-Pass : goal.returns-in-Pass

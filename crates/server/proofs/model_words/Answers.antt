@@ -1,7 +1,6 @@
 -- `server::model_words` meets its contract, case by case.
-use mathlib.Core.Path.{ap, sym, ◌∙◌}
+use mathlib.Core.Path.{ap, sym}
 use Rattle.server.specs.Words.{words_of_model}
-use borrow.Author.Rules.{rules}
 use Rattle.server.proofs.model_words.Goals as goal
 
 pub returns-in-Into : goal.returns-in-Into

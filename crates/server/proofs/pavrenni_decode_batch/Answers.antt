@@ -1,5 +1,4 @@
 -- `server::pavrenni_decode_batch` meets its contract: the words of what the call answers. Each is named, since a search for it costs a second.
-use borrow.Author.Rules.{rules}
 use Rattle.server.proofs.pavrenni_decode_batch.Goals as goal
 
 pub shape_of-out : goal.shape_of-out

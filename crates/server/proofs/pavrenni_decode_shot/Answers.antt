@@ -1,5 +1,4 @@
 -- `server::pavrenni_decode_shot` meets its contract: the words of what the call answers. Each is named, since a search for it costs a second.
-use borrow.Author.Rules.{rules}
 use Rattle.server.proofs.pavrenni_decode_shot.Goals as goal
 
 pub shape_of-row : goal.shape_of-row

@@ -1,5 +1,4 @@
 -- `server::pavrenni_decompose` meets its contract: the words of what the call answers.
-use borrow.Author.Rules.{rules}
 use Rattle.server.proofs.pavrenni_decompose.Goals as goal
 
 pub shape_of-out_probability : goal.shape_of-out_probability

@@ -3,7 +3,6 @@ use mathlib.Core.Path.{sym, ◌∙◌}
 use borrow.Author.Tests.{not-true, not-false}
 use Rattle.server.specs.Lengths.{decode_lengths}
 use Rattle.server.proofs.Counts.{few_detectors, few_items}
-use borrow.Author.Rules.{rules}
 use mathlib.Core.Path.{ap}
 use mathlib.Core.Bool.{not}
 use Rattle.server.proofs.pavrenni_lengths_for.Goals as goal

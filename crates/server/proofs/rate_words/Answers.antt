@@ -1,7 +1,6 @@
 -- `server::rate_words` meets its contract, case by case.
-use mathlib.Core.Path.{ap, sym, ◌∙◌}
+use mathlib.Core.Path.{ap, sym}
 use Rattle.server.specs.Words.{words_of_rate}
-use borrow.Author.Rules.{rules}
 use Rattle.server.proofs.rate_words.Goals as goal
 
 pub returns-in-Rate : goal.returns-in-Rate

@@ -1,7 +1,6 @@
 -- `server::shot_words` meets its contract, case by case.
-use mathlib.Core.Path.{ap, sym, ◌∙◌}
+use mathlib.Core.Path.{ap, sym}
 use Rattle.server.specs.Words.{words_of_shot}
-use borrow.Author.Rules.{rules}
 use Rattle.server.proofs.shot_words.Goals as goal
 
 pub returns-in-Decoded : goal.returns-in-Decoded

@@ -4,7 +4,6 @@ use lib.ListN.{take, drop}
 use Rattle.columns.specs.Columns.{column}
 use Rattle.reader.proofs.Parts.{places_of, truth_is}
 use Rattle.session.proofs.ByKind.{some_model, some_shot, by_model, by_shot, by_other}
-use borrow.Author.Rules.{rules}
 use Rattle.session.proofs.answer_kind.Goals as goal
 
 pub answer_model-requires : goal.answer_model-requires

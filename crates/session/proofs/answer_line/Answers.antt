@@ -4,7 +4,6 @@ use mathlib.Core.List.{[]}
 use Rattle.edges.specs.Tables.{slices}
 use Rattle.reader.specs.Columns.{columns_of}
 use Rattle.session.proofs.Lines.{same_of, line_some, line_refused, line_next}
-use borrow.Author.Rules.{rules}
 use Rattle.session.proofs.answer_line.Goals as goal
 
 pub refuse-requires : goal.refuse-requires

@@ -1,11 +1,9 @@
 -- `session::answer_model`: the graph, or the refusal.
 use mathlib.Core.Path.{refl}
 use mathlib.Core.List.{[]}
-use native.Mathlib.Omega.{arith}
 use Rattle.columns.specs.Columns.{column}
 use Rattle.edges.specs.Tables.{slices}
 use Rattle.session.proofs.Models.{whole_rows, model_few, model_on, model_refused}
-use borrow.Author.Rules.{rules}
 use Rattle.session.proofs.answer_model.Goals as goal
 
 pub words_of-words-requires : goal.words_of-words-requires

@@ -1,10 +1,7 @@
 -- `session::answer_shot`: the shot on the parts of the tables that are in use.
-use Prim.Native.Nat.{ℕ, ◌≤◌}
-use mathlib.Core.Path.{refl}
 use native.Mathlib.Omega.{arith}
 use lib.ListN.{length-take}
 use Rattle.session.proofs.Shots.{fits, by_full, by_decoded_lem, by_refused}
-use borrow.Author.Rules.{rules}
 use Rattle.session.proofs.answer_shot.Goals as goal
 
 pub returns-then-n-eq-MAX_SHOTS : goal.returns-then-n-eq-MAX_SHOTS

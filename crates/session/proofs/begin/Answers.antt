@@ -1,6 +1,5 @@
 -- `session::begin`: the numbers before the first line.
 use Rattle.session.proofs.Fronts.{begin_numbers}
-use borrow.Author.Rules.{rules}
 use Rattle.session.proofs.begin.Goals as goal
 
 pub returns : goal.returns

@@ -2,7 +2,6 @@
 use mathlib.Core.Path.{sym, ◌∙◌}
 use Rattle.frames.proofs.FrameKinds.{kind_none}
 use Rattle.hex_text.specs.Hex.{bytes_of}
-use borrow.Author.Rules.{rules}
 use Rattle.session.proofs.kind_of.Goals as goal
 
 pub returns-then-byte_count-eq0 : goal.returns-then-byte_count-eq0

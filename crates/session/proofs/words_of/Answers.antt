@@ -3,7 +3,6 @@ use Prim.Native.Nat.{ℕ, ◌*◌}
 use mathlib.Core.Path.{ap}
 use native.Mathlib.Omega.{arith}
 use Rattle.session.proofs.Fronts.{words_few}
-use borrow.Author.Rules.{rules}
 use Rattle.session.proofs.words_of.Goals as goal
 
 pub overflow_mul-result : goal.overflow_mul-result

@@ -1,6 +1,4 @@
 -- `session::write_end`: by how the input ends.
-use mathlib.Core.Path.{sym}
-use borrow.Author.Rules.{rules}
 use Rattle.session.proofs.write_end.Goals as goal
 
 pub returns : goal.returns

@@ -11,7 +11,6 @@ use Rattle.shot.proofs.Lights.{lighting, lit_row, rep_start}
 use Rattle.columns.proofs.Columns.{keep_length}
 use Rattle.cells.specs.Tables.{defects, front, touched, cnt}
 use Rattle.shot.proofs.DecodeRows.{place, room_on}
-use borrow.Author.Rules.{rules}
 use Rattle.shot.proofs.decode_clean.Goals as goal
 
 pub list_set_bits-l-requires : goal.list_set_bits-l-requires

@@ -3,7 +3,6 @@ use mathlib.Core.Path.{refl, ◌∙◌}
 use mathlib.Core.Bool.{false}
 use Rattle.columns.proofs.Columns.{keep_length}
 use Rattle.shot.proofs.Ends.{used, ended}
-use borrow.Author.Rules.{rules}
 use Rattle.shot.proofs.end_shot.Goals as goal
 
 pub finish-r-requires : goal.finish-r-requires

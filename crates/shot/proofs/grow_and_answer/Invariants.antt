@@ -1,24 +1,15 @@
 -- `shot::grow_and_answer` meets its contract. The invariant: the tables hold the state after so many rounds, growth from there on is the whole growth, and every unsaturated edge has room.
-use Prim.Native.Nat.{ℕ, suc, ◌-◌, ◌+◌, ◌≤◌, ◌<◌}
-use mathlib.Core.Path.{◌≡◌, refl, sym, ap, ◌∙◌, subst}
-use mathlib.Core.Bool.{false}
+use Prim.Native.Nat.{suc, ◌-◌, ◌≤◌}
+use mathlib.Core.Path.{◌≡◌}
 use mathlib.Core.List.{[], ◌∷◌}
-use native.Mathlib.Omega.{arith}
 use lib.ListN.{length}
 use Rattle.lists.proofs.Counts.{trues}
 use Rattle.steps.specs.Growth.{turn, grow}
-use Rattle.steps.specs.Call.{list_left}
-use Rattle.steps.specs.Shot.{decode, row_left}
-use Rattle.growth_laws.proofs.Rooms.{Rooms, rooms_start}
+use Rattle.growth_laws.proofs.Rooms.{Rooms}
 use Rattle.adjacency.specs.Adjacent.{weighted}
 use Rattle.growth_state.specs.Rep.{Rep, state_of}
-use Rattle.growth_round.proofs.Turns.{rep_own, same_space, rounds_few, settles, gets_stuck, rep_on, rooms_on, trues_on, trues_most, so_on, starts}
-use Rattle.shot.specs.Shots.{graph_in, shot_of}
 use Rattle.shot.proofs.Joins as joins
-use Rattle.shot.proofs.Rounds.{relit}
-use Rattle.columns.proofs.Columns.{keep_length, keep_then, keep_none, keep_more}
-use Rattle.cells.specs.Tables.{parents, exits, lits, knowns, odds, hots, frees, seen, active, front, touched, cnt, fresh, SameTree, SameFlags, SameStacks, SameLinks}
-use Rattle.shot.proofs.RoundRows.{left_kept}
+use Rattle.cells.specs.Tables.{parents, exits, lits, knowns, odds, hots, frees, seen, active, SameTree, SameFlags, SameStacks, SameLinks}
 use Rattle.shot.proofs.grow_and_answer.Given as goal
 
 abbrev pub invariant-loop-a : goal.invariant-loop-a

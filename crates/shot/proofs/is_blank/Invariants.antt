@@ -1,13 +1,10 @@
 -- `shot::is_blank` meets its contract. The invariant: the words that are left decide.
-use Prim.Native.Nat.{ℕ, ◌-◌, ◌≤◌}
-use mathlib.Core.Path.{◌≡◌, refl, sym, ap, ◌∙◌}
-use mathlib.Core.Bool.{true, not}
-use native.Mathlib.Omega.{arith}
-use borrow.Author.Tests.{ne_eqb}
+use Prim.Native.Nat.{◌-◌, ◌≤◌}
+use mathlib.Core.Path.{◌≡◌}
+use mathlib.Core.Bool.{not}
 use lib.Dec.{eqb}
 use lib.ListN.{length}
-use lib.Seq.{slice, slice_empty, take-length}
-use Rattle.lists.proofs.Slices.{slice_next}
+use lib.Seq.{slice}
 use Rattle.lists.specs.Lists.{any}
 use Rattle.shot.proofs.is_blank.Given as goal
 

@@ -1,6 +1,5 @@
 -- `shot::stuck_shot` meets its contract. Assumes nothing.
 use Rattle.shot.proofs.Joins.{to_clean, stuck_answer, stuck_list, stuck_row_lem}
-use borrow.Author.Rules.{rules}
 use Rattle.shot.proofs.stuck_shot.Goals as goal
 
 pub clean-requires : goal.clean-requires

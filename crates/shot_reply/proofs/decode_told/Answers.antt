@@ -1,11 +1,7 @@
 -- `shot_reply::decode_told`: the three answers of the decoder.
-use Prim.Native.Nat.{ℕ, ◌+◌, ◌*◌, ◌≤◌}
-use mathlib.Core.Path.{◌≡◌, refl, sym, ◌∙◌}
-use native.Mathlib.Omega.{arith}
-use lib.ListN.{length, length-take}
+use lib.ListN.{length}
 use Rattle.shot_reply.specs.Outcome.{handed_for}
 use Rattle.shot_reply.proofs.Outcomes.{told_refused, told_stuck, told_list, list_long, told_room}
-use borrow.Author.Rules.{rules}
 use Rattle.shot_reply.proofs.decode_told.Goals as goal
 
 pub slice_bounds-tell-end : goal.slice_bounds-tell-end

@@ -1,10 +1,6 @@
 use Prim.Native.Nat.{◌-◌}
-use mathlib.Core.Path.{◌≡◌, refl, sym, ◌∙◌}
-use native.Mathlib.Omega.{arith}
-use lib.ListN.{length, drop}
+use mathlib.Core.Path.{refl, sym, ◌∙◌}
 use borrow.Author.Tests.{eq-eqb, ne_eqb}
-use borrow.Author.Rules.{rules}
-use Rattle.shot_reply.specs.Outcome.{differs}
 use Rattle.shot_reply.proofs.Texts.{differs_here, differs_later, differs_end}
 use Rattle.shot_reply.proofs.differs.Goals as goal
 

@@ -1,12 +1,8 @@
 -- `shot_reply::differs`: the words from i on decide.
 use Prim.Native.Nat.{◌-◌}
-use mathlib.Core.Path.{◌≡◌, refl, sym, ◌∙◌}
-use native.Mathlib.Omega.{arith}
+use mathlib.Core.Path.{◌≡◌}
 use lib.ListN.{length, drop}
-use borrow.Author.Tests.{eq-eqb, ne_eqb}
-use borrow.Author.Rules.{rules}
 use Rattle.shot_reply.specs.Outcome.{differs}
-use Rattle.shot_reply.proofs.Texts.{differs_here, differs_later, differs_end}
 use Rattle.shot_reply.proofs.differs.Given as goal
 
 abbrev pub invariant-loop-i : goal.invariant-loop-i

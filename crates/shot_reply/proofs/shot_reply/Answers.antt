@@ -1,9 +1,6 @@
 -- `shot_reply::shot_reply`: both packings, then the shot.
-use Prim.Native.Nat.{ℕ, ◌+◌, ◌*◌, ◌≤◌}
-use mathlib.Core.Path.{◌≡◌, refl, sym, ◌∙◌}
-use native.Mathlib.Omega.{arith}
+use mathlib.Core.Path.{sym, ◌∙◌}
 use Rattle.shot_reply.proofs.Outcomes.{row_refused, truth_refused, both_packed}
-use borrow.Author.Rules.{rules}
 use Rattle.shot_reply.proofs.shot_reply.Goals as goal
 
 pub returns-in-Refused : goal.returns-in-Refused

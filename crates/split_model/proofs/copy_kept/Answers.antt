@@ -1,13 +1,7 @@
 -- `split_model::copy_kept`: column by column.
-use Prim.Native.Nat.{ℕ, ◌+◌}
-use mathlib.Core.Path.{◌≡◌, refl, sym, ap, ◌∙◌}
-use native.Mathlib.Omega.{arith}
-use lib.ListN.{length}
 use Rattle.dem.specs.Positions.{tables}
 use Rattle.dem.proofs.Positions.{reached_of, lengths}
-use Rattle.split_model.specs.Begun.{Copyable, CopiedKept}
 use Rattle.split_model.proofs.Copies.{all_copied, kept_counted, component_counted, entry_counted, parts_fit, lists_long}
-use borrow.Author.Rules.{rules}
 use Rattle.split_model.proofs.copy_kept.Goals as goal
 
 pub copy_probabilities-kept-requires : goal.copy_probabilities-kept-requires

@@ -1,16 +1,12 @@
 -- `split_model::split_all`: what is left to do from the model so far gives the whole.
-use Prim.Native.Nat.{ℕ, ◌+◌, ◌-◌, ◌*◌, ◌≤◌}
-use mathlib.Core.Path.{◌≡◌, refl, sym, ap, ap₂, ◌∙◌, subst}
-use mathlib.Core.List.{List}
-use native.Mathlib.Omega.{arith}
-use lib.ListN.{length, get_or}
-use borrow.Author.Rules.{rules}
-use Rattle.dem.specs.Tables.{components_in, entries_in, model_of}
-use Rattle.dem.specs.Positions.{tables, head_of, place_of, place_past}
-use Rattle.dem.specs.Decompose.{kept_of, decompose}
-use Rattle.dem.proofs.Positions.{reached_of, past_inside, place_next}
-use Rattle.split_model.specs.Begun.{symptoms_of, columns_of, Begun}
-use Rattle.split_model.proofs.Turn.{none_yet, no_more, next_within, fewer_left, head_held, room_here, inside_here, large_here, few_here, ready_same, front_first, Going, going_first, going_kept, going_one, going_stop, going_end}
+use Prim.Native.Nat.{◌-◌, ◌≤◌}
+use mathlib.Core.Path.{◌≡◌}
+use lib.ListN.{length}
+use Rattle.dem.specs.Tables.{model_of}
+use Rattle.dem.specs.Positions.{tables, place_of}
+use Rattle.dem.specs.Decompose.{kept_of}
+use Rattle.split_model.specs.Begun.{symptoms_of, columns_of}
+use Rattle.split_model.proofs.Turn.{Going}
 use Rattle.split_model.proofs.split_all.Given as goal
 
 abbrev pub invariant-loop-next : goal.invariant-loop-next

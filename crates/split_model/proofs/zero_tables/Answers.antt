@@ -2,7 +2,6 @@
 use mathlib.Core.Path.{refl}
 use lib.Ieee.{of_bits}
 use Rattle.dem.specs.Tables.{tables_zero}
-use borrow.Author.Rules.{rules}
 use Rattle.split_model.proofs.zero_tables.Goals as goal
 
 pub shape_of-probability : goal.shape_of-probability

@@ -1,15 +1,13 @@
 -- `splits::add_cover`: the members of the cover, and p added to each.
 use Prim.Native.Nat.{ℕ, ◌+◌, ◌-◌}
 use native.Mathlib.Nat.{add-sub_cancel_left}
-use mathlib.Core.Path.{◌≡◌, refl, sym, ap, ◌∙◌}
-use mathlib.Core.List.{List}
+use mathlib.Core.Path.{ap}
 use native.Mathlib.Omega.{arith}
-use lib.ListN.{length, take, drop}
+use lib.ListN.{take, drop}
 use Rattle.dem.specs.Cover.{first_cover}
 use Rattle.cover.specs.Kept.{kept_in}
 use Rattle.last_equal.specs.Last.{symptom_in}
 use Rattle.splits.proofs.Covers.{given, members_below, kept_length, told_none, told_some, told_covered, answered_same}
-use borrow.Author.Rules.{rules}
 use Rattle.splits.proofs.add_cover.Goals as goal
 
 pub partition_cover-found-requires : goal.partition_cover-found-requires

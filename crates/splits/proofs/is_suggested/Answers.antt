@@ -1,13 +1,10 @@
-use Prim.Native.Nat.{ℕ, ◌+◌, ◌-◌, ◌≤◌, ◌<◌}
-use mathlib.Core.Path.{◌≡◌, refl, sym, ap, ◌∙◌}
+use Prim.Native.Nat.{◌-◌}
+use mathlib.Core.Path.{sym, ap, ◌∙◌}
 use mathlib.Core.Bool.{not}
 use native.Mathlib.Omega.{arith}
-use lib.ListN.{length, get_or, drop}
-use borrow.Author.Rules.{rules}
+use lib.ListN.{get_or}
 use borrow.Author.Tests.{le-leb, lt-leb}
-use Rattle.lists.specs.Lists.{any}
-use Rattle.splits.specs.Ready.{counts_suggest}
-use Rattle.splits.proofs.Suggests.{other, counts_none, counts_some, any_turn, any_end}
+use Rattle.splits.proofs.Suggests.{counts_none, counts_some, any_turn, any_end}
 use Rattle.splits.proofs.is_suggested.Goals as goal
 
 pub returns-then-counts-eq0 : goal.returns-then-counts-eq0

@@ -1,14 +1,11 @@
 -- `splits::is_suggested`: the counts from i on are all one or two just where all are.
-use Prim.Native.Nat.{ℕ, ◌+◌, ◌-◌, ◌≤◌, ◌<◌}
-use mathlib.Core.Path.{◌≡◌, refl, sym, ap, ◌∙◌}
+use Prim.Native.Nat.{◌-◌}
+use mathlib.Core.Path.{◌≡◌}
 use mathlib.Core.Bool.{not}
-use native.Mathlib.Omega.{arith}
-use lib.ListN.{length, get_or, drop}
-use borrow.Author.Rules.{rules}
-use borrow.Author.Tests.{le-leb, lt-leb}
+use lib.ListN.{length, drop}
 use Rattle.lists.specs.Lists.{any}
 use Rattle.splits.specs.Ready.{counts_suggest}
-use Rattle.splits.proofs.Suggests.{other, counts_none, counts_some, any_turn, any_end}
+use Rattle.splits.proofs.Suggests.{other}
 use Rattle.splits.proofs.is_suggested.Given as goal
 
 abbrev pub invariant-loop-i : goal.invariant-loop-i

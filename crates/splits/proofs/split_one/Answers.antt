@@ -1,7 +1,7 @@
 -- `splits::split_one`: by the components, or by the first cover.
-use Prim.Native.Nat.{ℕ, ◌+◌, ◌-◌}
+use Prim.Native.Nat.{ℕ, ◌-◌}
 use native.Mathlib.Nat.{add-sub_cancel_left}
-use mathlib.Core.Path.{◌≡◌, refl, sym, ap, ◌∙◌, subst}
+use mathlib.Core.Path.{refl, sym, ap, ◌∙◌, subst}
 use mathlib.Core.List.{List}
 use native.Mathlib.Omega.{arith}
 use lib.ListN.{length, take, drop}
@@ -12,7 +12,6 @@ use Rattle.last_equal.specs.Last.{symptom_in}
 use Rattle.suggested.specs.Held.{places_of}
 use Rattle.splits.specs.Ready.{counts_suggest, Covered}
 use Rattle.splits.proofs.Ways.{kept_same, kept_ready, span, coverable, few_components, counts_are, suggested, by_components, by_cover_lem, after_now, after_full, after_none, after_cover}
-use borrow.Author.Rules.{rules}
 use mathlib.Core.Bool.{not}
 use Rattle.splits.proofs.split_one.Goals as goal
 

@@ -1,10 +1,7 @@
-use Prim.Native.Nat.{◌+◌, ◌-◌, ◌≤◌}
-use mathlib.Core.Path.{◌≡◌, refl, ◌∙◌}
-use mathlib.Core.List.{◌++◌}
+use Prim.Native.Nat.{◌-◌}
+use mathlib.Core.Path.{refl}
 use native.Mathlib.Omega.{arith}
-use lib.ListN.{length, take, length-set}
-use borrow.Author.Rules.{rules}
-use Rattle.stream.specs.Fed.{between}
+use lib.ListN.{length-set}
 use Rattle.stream.proofs.Blocks.{put_first, put_next, put_last}
 use Rattle.stream.proofs.append.Goals as goal
 

@@ -1,12 +1,9 @@
 -- `stream::append`: so many bytes behind the used part.
 use Prim.Native.Nat.{◌+◌, ◌-◌, ◌≤◌}
-use mathlib.Core.Path.{◌≡◌, refl, ◌∙◌}
+use mathlib.Core.Path.{◌≡◌}
 use mathlib.Core.List.{◌++◌}
-use native.Mathlib.Omega.{arith}
-use lib.ListN.{length, take, length-set}
-use borrow.Author.Rules.{rules}
+use lib.ListN.{length, take}
 use Rattle.stream.specs.Fed.{between}
-use Rattle.stream.proofs.Blocks.{put_first, put_next, put_last}
 use Rattle.stream.proofs.append.Given as goal
 
 abbrev pub invariant-loop-at : goal.invariant-loop-at

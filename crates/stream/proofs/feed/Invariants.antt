@@ -1,16 +1,11 @@
 -- `stream::feed`: from whatever session it began with, the loop stands at a place that it has come to.
-use Prim.Native.Nat.{ℕ, ◌-◌}
-use mathlib.Core.Path.{◌≡◌, refl, ◌∙◌}
+use Prim.Native.Nat.{◌-◌}
+use mathlib.Core.Path.{◌≡◌}
 use mathlib.Core.List.{[]}
-use mathlib.Core.Logic.{inl}
-use native.Mathlib.Omega.{arith}
 use lib.ListN.{length}
-use borrow.Author.Rules.{rules}
 use Rattle.edges.specs.Tables.{slices}
 use Rattle.reader.specs.Columns.{columns_of}
-use Rattle.stream.specs.declared.Fed.{Fed}
-use Rattle.stream.specs.Fed.{Feeds, Further}
-use Rattle.stream.proofs.Places.{Going, going_first, going_standing, going_on, going_over, Moved, moved_on, pressed_room, pressed_all, pressed_over}
+use Rattle.stream.proofs.Places.{Going, Moved}
 use Rattle.stream.proofs.feed.Given as goal
 
 abbrev pub invariant-loop-p : goal.invariant-loop-p

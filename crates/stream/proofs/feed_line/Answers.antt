@@ -1,15 +1,13 @@
 -- `stream::feed_line`: too long, a part of a line, or a whole one.
-use Prim.Native.Nat.{ℕ, ◌+◌, ◌-◌, ◌≤◌}
+use Prim.Native.Nat.{◌+◌, ◌-◌}
 use mathlib.Core.Path.{refl}
 use mathlib.Core.List.{[]}
 use native.Mathlib.Omega.{arith}
-use lib.ListN.{length}
 use Rattle.edges.specs.Tables.{slices}
 use Rattle.reader.specs.Columns.{columns_of}
 use Rattle.session.proofs.Lines.{same_of}
 use Rattle.stream.proofs.Places.{feed_long, feed_part, feed_whole, standing_kept}
 use Rattle.stream.proofs.Wholes.{sizes_all, room_left, on_fits, whole_on, ended_fits, whole_ended}
-use borrow.Author.Rules.{rules}
 use Rattle.stream.proofs.feed_line.Goals as goal
 
 pub line_end-end-requires : goal.line_end-end-requires

@@ -1,11 +1,6 @@
-use Prim.Native.Nat.{◌-◌, ◌≤◌}
-use mathlib.Core.Path.{◌≡◌}
+use Prim.Native.Nat.{◌-◌}
 use mathlib.Core.Bool.{true}
 use native.Mathlib.Omega.{arith}
-use lib.ListN.{length}
-use borrow.Author.Rules.{rules}
-use Rattle.frames.specs.LineLaws.{unended}
-use Rattle.stream.specs.Fed.{between}
 use Rattle.stream.proofs.Blocks.{unended_none, unended_next}
 use Rattle.stream.proofs.line_end.Goals as goal
 

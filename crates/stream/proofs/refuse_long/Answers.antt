@@ -2,12 +2,10 @@
 use Prim.Native.Nat.{ℕ, ◌+◌, ◌-◌}
 use mathlib.Core.Path.{ap}
 use native.Mathlib.Omega.{arith}
-use lib.ListN.{length}
 use Rattle.codes.specs.declared.Refusal.TheVariants.{Frame}
 use Rattle.replies.specs.Last.{refusal_text}
 use Rattle.stream.specs.declared.Fed.TheVariants as fed
 use Rattle.stream.proofs.Blocks.{appended}
-use borrow.Author.Rules.{rules}
 use Rattle.stream.proofs.refuse_long.Goals as goal
 
 pub overflow_add-result : goal.overflow_add-result

@@ -1,6 +1,5 @@
 -- `stream::start`: before the first byte.
 use Rattle.stream.proofs.Wholes.{start_is}
-use borrow.Author.Rules.{rules}
 use Rattle.stream.proofs.start.Goals as goal
 
 pub returns : goal.returns

@@ -1,12 +1,9 @@
 -- `suggested::add_component`: the last equal mechanism, or no place, or a new one.
-use Prim.Native.Nat.{ℕ, ◌+◌, ◌-◌}
-use mathlib.Core.Path.{◌≡◌, refl, sym, ap, ◌∙◌}
+use Prim.Native.Nat.{◌-◌}
+use mathlib.Core.Path.{refl, sym, ap, ◌∙◌}
 use native.Mathlib.Omega.{arith}
-use lib.ListN.{length}
 use borrow.Author.Tests.{not-true, not-false}
-use Rattle.suggested.specs.Held.{Holds, Held, Outcome, Roomy}
 use Rattle.suggested.proofs.Adding.{findable, found_below, add_found, add_full, below_limit, entries_fit, appendable, add_new}
-use borrow.Author.Rules.{rules}
 use mathlib.Core.Bool.{not}
 use Rattle.suggested.proofs.add_component.Goals as goal
 

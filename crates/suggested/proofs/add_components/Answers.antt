@@ -1,15 +1,12 @@
-use Prim.Native.Nat.{ℕ, ◌+◌, ◌-◌, ◌≤◌}
-use mathlib.Core.Path.{◌≡◌, refl, sym, ap, ◌∙◌, subst}
-use mathlib.Core.List.{List}
+use Prim.Native.Nat.{◌+◌, ◌-◌}
+use mathlib.Core.Path.{◌≡◌, refl, ◌∙◌}
 use native.Mathlib.Omega.{arith}
 use lib.ListN.{length, get_or}
-use borrow.Author.Rules.{rules}
-use Rattle.dem.specs.Model.{ErrorMechanism}
-use Rattle.dem.specs.Tables.{Tables, components_of}
+use Rattle.dem.specs.Tables.{components_of}
 use Rattle.dem.specs.Decompose.{into, add_components}
 use Rattle.last_equal.specs.Last.{symptom_in}
-use Rattle.suggested.specs.Held.{places_of, Holds, Held, Outcome, Roomy, components_from, Suggested}
-use Rattle.suggested.proofs.Turns.{span_at, components_turn, component_here, others_suggested, Continued, continue_next, continue_full, continue_end}
+use Rattle.suggested.specs.Held.{places_of, components_from}
+use Rattle.suggested.proofs.Turns.{span_at, components_turn, component_here, others_suggested, continue_next, continue_full, continue_end}
 use Rattle.suggested.proofs.add_components.Goals as goal
 
 pub loop-left-init : goal.loop-left-init

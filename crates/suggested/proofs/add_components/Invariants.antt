@@ -1,16 +1,13 @@
 -- `suggested::add_components`: what is left to do from the model so far gives the whole.
-use Prim.Native.Nat.{ℕ, ◌+◌, ◌-◌, ◌≤◌}
-use mathlib.Core.Path.{◌≡◌, refl, sym, ap, ◌∙◌, subst}
+use Prim.Native.Nat.{◌-◌}
+use mathlib.Core.Path.{◌≡◌}
 use mathlib.Core.List.{List}
-use native.Mathlib.Omega.{arith}
-use lib.ListN.{length, get_or}
-use borrow.Author.Rules.{rules}
+use lib.ListN.{length}
 use Rattle.dem.specs.Model.{ErrorMechanism}
-use Rattle.dem.specs.Tables.{Tables, components_of}
+use Rattle.dem.specs.Tables.{Tables}
 use Rattle.dem.specs.Decompose.{into, add_components}
-use Rattle.last_equal.specs.Last.{symptom_in}
-use Rattle.suggested.specs.Held.{places_of, Holds, Held, Outcome, Roomy, components_from, Suggested}
-use Rattle.suggested.proofs.Turns.{span_at, components_turn, component_here, others_suggested, Continued, continue_next, continue_full, continue_end}
+use Rattle.suggested.specs.Held.{places_of, Holds, Roomy, components_from, Suggested}
+use Rattle.suggested.proofs.Turns.{Continued}
 use Rattle.suggested.proofs.add_components.Given as goal
 
 abbrev pub invariant-loop-left : goal.invariant-loop-left

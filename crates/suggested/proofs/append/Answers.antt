@@ -1,13 +1,11 @@
 -- `suggested::append`: one entry in each table, and the chain.
-use Prim.Native.Nat.{ℕ, ◌+◌}
-use mathlib.Core.Path.{◌≡◌, refl, sym, ap, ◌∙◌}
+use mathlib.Core.Path.{refl, ap}
 use native.Mathlib.Omega.{arith}
 use lib.ListN.{length, set}
 use lib.Ieee.{Float, of_bits}
 use Rattle.cover.specs.Kept.{detectors_at}
 use Rattle.last_equal.proofs.Chain.{chain_same}
 use Rattle.suggested.proofs.Appending.{more_detectors, detectors_before}
-use borrow.Author.Rules.{rules}
 use Rattle.suggested.proofs.append.Goals as goal
 
 pub link-requires : goal.link-requires

@@ -1,10 +1,8 @@
 -- `tables::fill_f64`: the first i places hold v.
-use Prim.Native.Nat.{ℕ, ◌-◌, ◌+◌, ◌≤◌, ◌<◌}
-use mathlib.Core.Path.{◌≡◌, refl, sym, ap, ◌∙◌}
-use mathlib.Core.List.{List, ◌++◌, append-nil}
-use native.Mathlib.Omega.{arith}
-use lib.ListN.{length, get_or, set, drop, replicate, length-set, drop_of_length-le}
-use Rattle.tables.proofs.Fills.{fill-next}
+use Prim.Native.Nat.{◌-◌, ◌+◌, ◌≤◌}
+use mathlib.Core.Path.{◌≡◌}
+use mathlib.Core.List.{◌++◌}
+use lib.ListN.{length, drop, replicate}
 use Rattle.tables.proofs.fill_f64.Given as goal
 
 abbrev pub invariant-loop-i : goal.invariant-loop-i

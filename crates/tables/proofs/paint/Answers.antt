@@ -1,11 +1,11 @@
 use Prim.Native.Nat.{◌-◌}
-use mathlib.Core.Path.{refl, sym}
+use mathlib.Core.Path.{refl}
 use mathlib.Core.Bool.{false}
 use mathlib.Core.List.{[], ◌∷◌}
 use native.Mathlib.Omega.{arith}
-use Rattle.columns.specs.Columns.{column, Keeps}
+use Rattle.columns.specs.Columns.{column}
 use Rattle.columns.proofs.Columns.{column_length, keep_none, keep_more, keep_then}
-use Rattle.tables.proofs.Marks.{Painting, start_paint, end_paint, place_in, turn_paint}
+use Rattle.tables.proofs.Marks.{start_paint, end_paint, place_in, turn_paint}
 use Rattle.tables.proofs.paint.Goals as goal
 
 pub loop-i-init : goal.loop-i-init

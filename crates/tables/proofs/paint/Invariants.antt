@@ -1,12 +1,9 @@
 -- `tables::paint` meets its contract. The invariant: the places before i are written. Assumes nothing.
 use Prim.Native.Nat.{◌-◌}
-use mathlib.Core.Path.{refl, sym}
 use mathlib.Core.Bool.{false}
 use mathlib.Core.List.{[], ◌∷◌}
-use native.Mathlib.Omega.{arith}
 use Rattle.columns.specs.Columns.{column, Keeps}
-use Rattle.columns.proofs.Columns.{column_length, keep_none, keep_more, keep_then}
-use Rattle.tables.proofs.Marks.{Painting, start_paint, end_paint, place_in, turn_paint}
+use Rattle.tables.proofs.Marks.{Painting}
 use Rattle.tables.proofs.paint.Given as goal
 
 abbrev pub invariant-loop-i : goal.invariant-loop-i

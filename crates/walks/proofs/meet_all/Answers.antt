@@ -5,9 +5,8 @@ use mathlib.Core.Bool.{false}
 use native.Mathlib.Omega.{arith}
 use borrow.Author.Tests.{not-true, not-false}
 use Rattle.columns.proofs.Columns.{column_length, keep_none, keep_more, keep_then}
-use Rattle.cells.specs.Tables.{frees, active, front, order_edge, order_parent, SameFlags, SameStacks}
-use Rattle.adjacency.specs.Pairs.{near, away}
-use Rattle.walks.proofs.Trying.{Trying, start_try, end_try, known, far_in, skip_open, skip_boundary, other_below, skip_met, top_fits, vertex_fits, push}
+use Rattle.cells.specs.Tables.{frees}
+use Rattle.walks.proofs.Trying.{start_try, end_try, known, skip_open, skip_boundary, other_below, skip_met, top_fits, vertex_fits, push}
 use Rattle.walks.proofs.Rows.{moved}
 use mathlib.Core.Path.{ap}
 use mathlib.Core.Bool.{not}
@@ -63,12 +62,11 @@ pub loop-k-smaller-then-not-met : goal.loop-k-smaller-then-not-met
 loop-k-smaller-then-not-met c = omega (arith, c.loop-k-test.true)
 
 pub loop-k-preserved-then-not-met : goal.loop-k-preserved-then-not-met
-loop-k-preserved-then-not-met c =
-    (
-      rw (c.set_flag.ensures.0, c.push.ensures.fronts, c.push.ensures.vertices, c.push.ensures.trees, c.push.ensures.parents, c.pair-edge.ensures, c.pair-other.ensures) (push c.requires.tryable c.loop-k.invariant.0 c.loop-k-test.true (moved c.args.sat.now c.pair-edge.ensures c.if-sat-edge.true) (λ z. c.if-o-d.true (c.pair-other.ensures ∙ z)) (moved (frees c.loop-k.flags) c.pair-other.ensures (sym c.flag-met.ensures ∙ not-true _ (ap not c.if-not-met.true)))),
-      keep_then false c.loop-k.invariant.1 c.set_flag.ensures.1,
-      keep_then 0 c.loop-k.invariant.2 c.push.ensures.kept,
-    )
+loop-k-preserved-then-not-met c = (
+  rw (c.set_flag.ensures.0, c.push.ensures.fronts, c.push.ensures.vertices, c.push.ensures.trees, c.push.ensures.parents, c.pair-edge.ensures, c.pair-other.ensures) (push c.requires.tryable c.loop-k.invariant.0 c.loop-k-test.true (moved c.args.sat.now c.pair-edge.ensures c.if-sat-edge.true) (λ z. c.if-o-d.true (c.pair-other.ensures ∙ z)) (moved (frees c.loop-k.flags) c.pair-other.ensures (sym c.flag-met.ensures ∙ not-true _ (ap not c.if-not-met.true)))),
+  keep_then false c.loop-k.invariant.1 c.set_flag.ensures.1,
+  keep_then 0 c.loop-k.invariant.2 c.push.ensures.kept,
+)
 
 pub loop-k-smaller-else-not-met : goal.loop-k-smaller-else-not-met
 loop-k-smaller-else-not-met c = omega (arith, c.loop-k-test.true)

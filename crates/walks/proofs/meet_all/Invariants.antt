@@ -1,15 +1,9 @@
 -- `walks::meet_all` meets its contract. The invariant: to try the edges left from here is to try them all from the entry. Assumes nothing.
 use Prim.Native.Nat.{◌-◌}
-use mathlib.Core.Path.{refl, sym, ◌∙◌}
 use mathlib.Core.List.{[], ◌∷◌}
-use mathlib.Core.Bool.{false}
-use native.Mathlib.Omega.{arith}
-use borrow.Author.Tests.{not-true, not-false}
-use Rattle.columns.proofs.Columns.{column_length, keep_none, keep_more, keep_then}
 use Rattle.cells.specs.Tables.{frees, active, front, order_edge, order_parent, SameFlags, SameStacks}
 use Rattle.adjacency.specs.Pairs.{near, away}
-use Rattle.walks.proofs.Trying.{Trying, start_try, end_try, known, far_in, skip_open, skip_boundary, other_below, skip_met, top_fits, vertex_fits, push}
-use Rattle.walks.proofs.Rows.{moved}
+use Rattle.walks.proofs.Trying.{Trying}
 use Rattle.walks.proofs.meet_all.Given as goal
 
 abbrev pub invariant-loop-k : goal.invariant-loop-k

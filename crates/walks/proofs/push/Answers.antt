@@ -4,7 +4,6 @@ use mathlib.Core.List.{[], ◌∷◌}
 use native.Mathlib.Omega.{arith}
 use lib.ListN.{set}
 use Rattle.columns.proofs.Columns.{keep_then, keep_more}
-use borrow.Author.Rules.{rules}
 use Rattle.walks.proofs.push.Goals as goal
 
 pub set_stack-requires : goal.set_stack-requires

@@ -3,10 +3,8 @@ use mathlib.Core.Path.{refl, ◌∙◌}
 use mathlib.Core.List.{[], ◌∷◌}
 use mathlib.Core.Bool.{false}
 use native.Mathlib.Omega.{arith}
-use Rattle.lists.proofs.Counts.{falses}
 use Rattle.columns.proofs.Columns.{column_length, keep_length, keep_none, keep_more, keep_then}
-use Rattle.cells.specs.Tables.{frees, active, front, order_edge, order_parent, SameFlags, SameStacks}
-use Rattle.walks.proofs.Walking.{Walking, start_walk, end_walk, below_stack, x_in, tryable, turn_walk}
+use Rattle.walks.proofs.Walking.{start_walk, end_walk, below_stack, x_in, tryable, turn_walk}
 use Rattle.walks.proofs.Rows.{head_of, from_head, to_head, start_head}
 use Rattle.walks.proofs.walk.Goals as goal
 
@@ -78,12 +76,11 @@ pub loop-top-smaller : goal.loop-top-smaller
 loop-top-smaller c = omega (arith, c.meet_all-new.ensures.tried.few, c.loop-top-test.true)
 
 pub loop-top-preserved : goal.loop-top-preserved
-loop-top-preserved c =
-    (
-      to_head (head_of c.args.flags.now c.set_flag.new.s c.args.stacks.now c.set_stack.new.s c.args.start c.set_flag.ensures.0 c.set_stack.ensures.0 c.set_stack.ensures.1) (turn_walk c.requires.tabled c.requires.start_lt_d.0 c.requires.start_lt_d.1 (from_head (head_of c.args.flags.now c.set_flag.new.s c.args.stacks.now c.set_stack.new.s c.args.start c.set_flag.ensures.0 c.set_stack.ensures.0 c.set_stack.ensures.1) c.loop-top.invariant.0) c.loop-top-test.true (rw c.stack-x.ensures at c.meet_all-new.ensures.tried) (keep_length false c.meet_all-new.ensures.same_flags.0 4) (keep_length 0 c.meet_all-new.ensures.same_flags.1 3) (keep_length 0 c.meet_all-new.ensures.same_flags.1 2) (keep_length 0 c.meet_all-new.ensures.same_flags.1 4) (keep_length 0 c.meet_all-new.ensures.same_flags.1 5)),
-      keep_then false c.loop-top.invariant.1 c.meet_all-new.ensures.same_flags.0,
-      keep_then 0 c.loop-top.invariant.2 c.meet_all-new.ensures.same_flags.1,
-    )
+loop-top-preserved c = (
+  to_head (head_of c.args.flags.now c.set_flag.new.s c.args.stacks.now c.set_stack.new.s c.args.start c.set_flag.ensures.0 c.set_stack.ensures.0 c.set_stack.ensures.1) (turn_walk c.requires.tabled c.requires.start_lt_d.0 c.requires.start_lt_d.1 (from_head (head_of c.args.flags.now c.set_flag.new.s c.args.stacks.now c.set_stack.new.s c.args.start c.set_flag.ensures.0 c.set_stack.ensures.0 c.set_stack.ensures.1) c.loop-top.invariant.0) c.loop-top-test.true (rw c.stack-x.ensures at c.meet_all-new.ensures.tried) (keep_length false c.meet_all-new.ensures.same_flags.0 4) (keep_length 0 c.meet_all-new.ensures.same_flags.1 3) (keep_length 0 c.meet_all-new.ensures.same_flags.1 2) (keep_length 0 c.meet_all-new.ensures.same_flags.1 4) (keep_length 0 c.meet_all-new.ensures.same_flags.1 5)),
+  keep_then false c.loop-top.invariant.1 c.meet_all-new.ensures.same_flags.0,
+  keep_then 0 c.loop-top.invariant.2 c.meet_all-new.ensures.same_flags.1,
+)
 
 pub shape_of-flags : goal.shape_of-flags
 shape_of-flags c = c.loop-top.invariant.1.long ∙ c.set_flag.ensures.1.long

@@ -1,14 +1,9 @@
 -- `walks::walk` meets its contract. The invariant: the walk from here, with just the fuel that it needs, is the whole walk. Assumes nothing.
 use Prim.Native.Nat.{◌+◌, ◌-◌}
-use mathlib.Core.Path.{refl, ◌∙◌}
 use mathlib.Core.List.{[], ◌∷◌}
-use mathlib.Core.Bool.{false}
-use native.Mathlib.Omega.{arith}
 use Rattle.lists.proofs.Counts.{falses}
-use Rattle.columns.proofs.Columns.{column_length, keep_length, keep_none, keep_more, keep_then}
 use Rattle.cells.specs.Tables.{frees, active, front, order_edge, order_parent, SameFlags, SameStacks}
-use Rattle.walks.proofs.Walking.{Walking, start_walk, end_walk, below_stack, x_in, tryable, turn_walk}
-use Rattle.walks.proofs.Rows.{head_of, from_head, to_head, start_head}
+use Rattle.walks.proofs.Walking.{Walking}
 use Rattle.walks.proofs.walk.Given as goal
 
 abbrev pub invariant-loop-top : goal.invariant-loop-top

@@ -1,7 +1,6 @@
 -- `weight::logarithm` meets its contract. Assumes nothing.
 use mathlib.Core.Path.{ap}
 use lib.IntN.{pos}
-use borrow.Author.Rules.{rules}
 use lib.Ieee.{binary64, add, mul, to_bits, of_int}
 use Rattle.weight.specs.Weight.{exponent, log_two, logarithm}
 use Rattle.weight.proofs.Parts.{no_nan, y_units, part_no_nan, exponent_held}

@@ -1,6 +1,5 @@
 -- `weight::series_at` meets its contract. Assumes nothing.
 use mathlib.Core.Path.{ap}
-use borrow.Author.Rules.{rules}
 use lib.Ieee.{binary64, mul}
 use Rattle.weight.specs.Weight.{two, series}
 use Rattle.weight.proofs.series_at.Goals as goal

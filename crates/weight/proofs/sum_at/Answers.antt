@@ -25,13 +25,12 @@ unfolding sum_at
 loop-i-init c = (search rules, ap (steps 15 c.args.s) c.coefficient-r.ensures)
 
 pub loop-i-preserved : goal.loop-i-preserved
-loop-i-preserved c =
-    (
-      omega arith,
-      ap (λ (x : Float). steps (c.loop-i.i - 1) c.args.s (add binary64 (mul binary64 c.loop-i.r c.args.s) x)) c.coefficient.ensures
-          ∙ sym (step c.loop-i.i c.args.s c.loop-i.r c.loop-i-test.true)
-          ∙ c.loop-i.invariant.1,
-    )
+loop-i-preserved c = (
+  omega arith,
+  ap (λ (x : Float). steps (c.loop-i.i - 1) c.args.s (add binary64 (mul binary64 c.loop-i.r c.args.s) x)) c.coefficient.ensures
+      ∙ sym (step c.loop-i.i c.args.s c.loop-i.r c.loop-i-test.true)
+      ∙ c.loop-i.invariant.1,
+)
 
 pub returns : goal.returns
 returns c = sym (done c.loop-i.i c.args.s c.loop-i.r c.loop-i-test.false) ∙ c.loop-i.invariant.1

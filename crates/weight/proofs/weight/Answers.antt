@@ -1,6 +1,5 @@
 -- `weight::weight` meets its contract. Assumes nothing.
 use mathlib.Core.Path.{sym, ◌∙◌}
-use borrow.Author.Rules.{rules}
 use lib.Ieee.{nan_bits}
 use Rattle.weight.specs.Weight.{weight_at, weight_of}
 use Rattle.weight.proofs.weight.Goals as goal

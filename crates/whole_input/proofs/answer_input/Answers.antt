@@ -3,7 +3,6 @@ use mathlib.Core.Path.{refl, sym}
 use native.Mathlib.Omega.{arith}
 use lib.ListN.{replicate}
 use Rattle.stream.proofs.Begins.{sizes_made}
-use borrow.Author.Rules.{rules}
 use Rattle.whole_input.proofs.answer_input.Goals as goal
 
 pub answer_over-requires : goal.answer_over-requires

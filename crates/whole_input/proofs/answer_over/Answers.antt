@@ -1,13 +1,10 @@
-use Prim.Native.Nat.{ℕ, ◌+◌, ◌-◌, ◌≤◌}
-use mathlib.Core.Path.{◌≡◌, refl, ap, ◌∙◌}
+use Prim.Native.Nat.{◌-◌}
+use mathlib.Core.Path.{refl, ap, ◌∙◌}
 use mathlib.Core.List.{[]}
 use native.Mathlib.Omega.{arith}
-use lib.ListN.{length}
-use borrow.Author.Rules.{rules}
 use Rattle.edges.specs.Tables.{slices}
 use Rattle.reader.specs.Columns.{columns_of}
 use Rattle.stream.specs.declared.Place.{Place}
-use Rattle.whole_input.specs.Whole.{Filled}
 use Rattle.whole_input.proofs.Outputs.{filled_first, filled_standing, filled_fits, over_fits, over_answered, on_fits, on_answered, on_filled, end_requires, end_fits, end_answered}
 use Rattle.whole_input.proofs.answer_over.Goals as goal
 

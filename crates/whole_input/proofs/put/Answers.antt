@@ -5,7 +5,6 @@ use native.Mathlib.Omega.{arith}
 use native.Mathlib.Nat.{sub-zero}
 use lib.ListN.{length, take, length-take}
 use Rattle.whole_input.proofs.Outputs.{put_whole, put_cut}
-use borrow.Author.Rules.{rules}
 use Rattle.whole_input.proofs.put.Goals as goal
 
 pub overflow_sub-room : goal.overflow_sub-room
