@@ -8,12 +8,15 @@
 // Entries that are not written are 0, in edge_v the boundary. Two weights are written, the others are 1.
 // A number is decimal. A float is a sign, 0 or 1 for minus, and a quotient: 0 1/4 is 0.25, 1 0/1 is minus zero, 0 1/0 is infinity, 0 0/0 is NaN.
 // The model of `dem` is one mechanism, its components have no entries. Before `mark` each word of the row is 99, and each bit of the scratch is set.
-ghost use Rattle.std.specs.Prelude.{◌≡◌, ◌≤◌, length};
+#![tactic(auto)]
+
+ghost use Rattle.std.specs.Prelude.{◌≡◌, ◌≤◌, IfOk, length};
 
 use codes::{Checked, Refusal};
-use libc::{STDIN_FILENO, STDOUT_FILENO};
 use marking::Marking;
 use packed::Packed;
+use std::io;
+use std::io::Read;
 
 const ONES: u64 = 18446744073709551615;
 
@@ -84,22 +87,23 @@ fn field_at(text: &[u8], f: usize) -> usize
     at
 }
 
-fn print_field(text: &[u8], f: usize) {
+fn print_field(out: &impl Print, text: &[u8], f: usize) -> io::Result<()> {
     let from = field_at(text, f);
     let to = find(text, from, b'|');
-    io::write_all(STDOUT_FILENO, &text[from..to]);
+    out.write_all(&text[from..to])
 }
 
-fn say(word: usize) {
+fn say(out: &impl Print, word: usize) -> io::Result<()> {
     print_field(
+        out,
         b", shots |, width |, words |: m_words |: code |, shot | at |: |: pass|: differs at |, row | |\n",
         word,
-    );
+    )
 }
 
-fn say_number(word: usize, n: usize) {
-    say(word);
-    io::print_decimal(STDOUT_FILENO, n as u64);
+fn say_number(out: &impl Print, word: usize, n: usize) -> io::Result<()> {
+    say(out, word)?;
+    out.print(n)
 }
 
 // The entry that a byte belongs to: a byte below the digits begins the next, up to the last.
@@ -248,38 +252,38 @@ fn weights(line: &[u8], f: usize) -> [f64; 16384]
 }
 
 // The code, and the edge or the shot where it names one.
-fn say_refusal(r: Refusal, before: usize) {
+fn say_refusal(out: &impl Print, r: Refusal, before: usize) -> io::Result<()> {
     let code = codes::code(r);
-    say_number(CODE, code as usize);
+    say_number(out, CODE, code as usize)?;
     match code {
-        4 | 5 | 9 => say_number(before, codes::first_value(r)),
-        _ => {}
+        4 | 5 | 9 => say_number(out, before, codes::first_value(r)),
+        _ => Ok(()),
     }
 }
 
-fn say_packed(p: Packed) {
+fn say_packed(out: &impl Print, p: Packed) -> io::Result<()> {
     match p {
-        Packed::Rows { m_words } => say_number(M_WORDS, m_words),
-        Packed::Refused(r) => say_refusal(r, SHOT),
+        Packed::Rows { m_words } => say_number(out, M_WORDS, m_words),
+        Packed::Refused(r) => say_refusal(out, r, SHOT),
     }
 }
 
-fn run_packed(line: &[u8]) {
+fn run_packed(out: &impl Print, line: &[u8]) -> io::Result<()> {
     let data = numbers(line, 3);
     let shots = value(line, 2, 0);
     let width = value(line, 2, 1);
     let n = slice_length(line, 2, 2, 256);
-    say_number(SHOTS, shots);
-    say_number(WIDTH, width);
-    say_number(WORDS, n);
-    say_packed(packed::try_from_shot_major(&data[0..n], shots, width));
+    say_number(out, SHOTS, shots)?;
+    say_number(out, WIDTH, width)?;
+    say_number(out, WORDS, n)?;
+    say_packed(out, packed::try_from_shot_major(&data[0..n], shots, width))
 }
 
 // The code, and 0 where the model passes.
-fn say_checked(c: Checked) {
+fn say_checked(out: &impl Print, c: Checked) -> io::Result<()> {
     match c {
-        Checked::Accepted => say_number(COLON, 0),
-        Checked::Refused(r) => say_number(COLON, codes::code(r) as usize),
+        Checked::Accepted => say_number(out, COLON, 0),
+        Checked::Refused(r) => say_number(out, COLON, codes::code(r) as usize),
     }
 }
 
@@ -312,35 +316,37 @@ fn small(line: &[u8], j: usize) -> u8 {
     (value(line, 2, j) % 256) as u8
 }
 
-fn run_dem(line: &[u8]) {
+fn run_dem(out: &impl Print, line: &[u8]) -> io::Result<()> {
     let entries = ends(line, 4, no_ends());
     let n = slice_length(line, 2, 4, 16384);
-    say_checked(check(
+    let checked = check(
         value(line, 2, 0),
         value(line, 2, 1),
         float(line, 3, 0),
         small(line, 2),
         small(line, 3),
         &entries[0..n],
-    ));
+    );
+    say_checked(out, checked)
 }
 
-fn say_marking(a: Marking) {
+fn say_marking(out: &impl Print, a: Marking) -> io::Result<()> {
     match a {
-        Marking::Pass => say(PASS),
-        Marking::Differs { detector } => say_number(DIFFERS, detector as usize),
-        Marking::Refused(r) => say_refusal(r, AT),
+        Marking::Pass => say(out, PASS),
+        Marking::Differs { detector } => say_number(out, DIFFERS, detector as usize),
+        Marking::Refused(r) => say_refusal(out, r, AT),
     }
 }
 
-fn say_row(row: &[u64; 3]) {
-    say_number(ROW, row[0] as usize);
-    say_number(SPACE, row[1] as usize);
-    say_number(SPACE, row[2] as usize);
+fn say_row(out: &impl Print, row: &[u64; 3]) -> io::Result<()> {
+    say_number(out, ROW, row[0] as usize)?;
+    say_number(out, SPACE, row[1] as usize)?;
+    say_number(out, SPACE, row[2] as usize)
 }
 
 // The first so many words of the row and of the scratch are lent. Long for its parameters, one a line.
 fn mark(
+    out: &impl Print,
     detectors: usize,
     observables: usize,
     edges: usize,
@@ -354,13 +360,13 @@ fn mark(
     r: usize,
     m: usize,
     w: usize,
-)
+) -> io::Result<()>
     requires { (r ≤ 3) × (m ≤ 256) × (w ≤ 64) }
 {
     let mut row = [99u64; 3];
     let mut marks = [ONES; 256];
     let mut wrong = [ONES; 64];
-    say_marking(marker::mark(
+    let marking = marker::mark(
         detectors,
         observables,
         edges,
@@ -374,12 +380,14 @@ fn mark(
         &mut row[0..r],
         &mut marks[0..m],
         &mut wrong[0..w],
-    ));
-    say_row(&row);
+    );
+    say_marking(out, marking)?;
+    say_row(out, &row)
 }
 
 // The counts, the width, and the lengths of the row and of the scratch. Long for its parameters, one a line.
 fn run_counts(
+    out: &impl Print,
     line: &[u8],
     edge_u: &[u32],
     edge_v: &[u32],
@@ -387,8 +395,9 @@ fn run_counts(
     edge_obs: &[u64],
     shot: &[u64],
     list: &[u32],
-) {
+) -> io::Result<()> {
     mark(
+        out,
         value(line, 2, 0),
         value(line, 2, 1),
         value(line, 2, 2),
@@ -402,11 +411,17 @@ fn run_counts(
         slice_length(line, 3, 6, 3),
         slice_length(line, 3, 7, 256),
         slice_length(line, 3, 8, 64),
-    );
+    )
 }
 
 // The observables, the shot and the list.
-fn run_shot(line: &[u8], edge_u: &[u32], edge_v: &[u32], edge_weight: &[f64]) {
+fn run_shot(
+    out: &impl Print,
+    line: &[u8],
+    edge_u: &[u32],
+    edge_v: &[u32],
+    edge_weight: &[f64],
+) -> io::Result<()> {
     let edge_obs = numbers(line, 7);
     let shot = numbers(line, 8);
     let list = ends(line, 9, no_ends());
@@ -414,6 +429,7 @@ fn run_shot(line: &[u8], edge_u: &[u32], edge_v: &[u32], edge_weight: &[f64]) {
     let s = slice_length(line, 3, 4, 256);
     let n = slice_length(line, 3, 5, 16384);
     run_counts(
+        out,
         line,
         edge_u,
         edge_v,
@@ -421,50 +437,72 @@ fn run_shot(line: &[u8], edge_u: &[u32], edge_v: &[u32], edge_weight: &[f64]) {
         &edge_obs[0..o],
         &shot[0..s],
         &list[0..n],
-    );
+    )
 }
 
 // The edges.
-fn run_marker(line: &[u8]) {
+fn run_marker(out: &impl Print, line: &[u8]) -> io::Result<()> {
     let edge_weight = weights(line, 4);
     let edge_u = ends(line, 5, no_ends());
     let edge_v = ends(line, 6, boundary_ends());
     let u = slice_length(line, 3, 0, 16384);
     let v = slice_length(line, 3, 1, 16384);
     let w = slice_length(line, 3, 2, 16384);
-    run_shot(line, &edge_u[0..u], &edge_v[0..v], &edge_weight[0..w]);
+    run_shot(out, line, &edge_u[0..u], &edge_v[0..v], &edge_weight[0..w])
 }
 
-fn run_case(line: &[u8]) {
+fn run_case(out: &impl Print, line: &[u8]) -> io::Result<()> {
     if line.len() == 0 {
-        return;
+        return Ok(());
     }
     let kind = line[0];
-    print_field(line, 1);
+    print_field(out, line, 1)?;
     match kind {
-        b'p' => run_packed(line),
-        b'd' => run_dem(line),
-        b'm' => run_marker(line),
+        b'p' => run_packed(out, line)?,
+        b'd' => run_dem(out, line)?,
+        b'm' => run_marker(out, line)?,
         _ => {}
     }
-    say(LINE_FEED);
+    say(out, LINE_FEED)
 }
 
 // Line after line.
-fn run(text: &[u8]) {
+fn run(out: &impl Print, text: &[u8]) -> io::Result<()> {
     let mut at = 0;
     while at < text.len() {
         let end = find(text, at, b'\n');
-        run_case(&text[at..end]);
+        run_case(out, &text[at..end])?;
         if end == text.len() {
-            return;
+            return Ok(());
         }
         at = end + 1;
     }
+    Ok(())
 }
 
-fn main() {
-    let mut text = io::large_buffer();
-    let n = io::read_full(STDIN_FILENO, &mut text);
-    run(&text[0..n]);
+fn no_text() -> [u8; 65536]
+    ensures { 65536 ≡ length result }
+{
+    [0; 65536]
+}
+
+// Reads to the end of the input, or until the text is full; how many bytes there are.
+fn read_full(from: &mut impl Read, text: &mut [u8]) -> io::Result<usize>
+    ensures { IfOk result (λ n. n ≤ length text.new) }
+{
+    let mut n = 0;
+    for _ in 0..u64::MAX {
+        let got = from.read(&mut text[n..])?;
+        if got == 0 {
+            break;
+        }
+        n += got;
+    }
+    Ok(n)
+}
+
+fn main(rt: HostRuntime) -> io::Result<()> {
+    let mut text = no_text();
+    let n = read_full(&mut rt.stdin(), &mut text)?;
+    run(&rt, &text[0..n])
 }
