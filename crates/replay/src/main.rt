@@ -1,8 +1,11 @@
 // Runs inputs of program `bench` and holds them to the answers beside them. A list on standard input has for each case the lengths of its input and of its
 // output, eight hexadecimal digits each, and a line feed, then both. A line for each case that is answered otherwise, and a count at the end.
+#![tactic(auto)]
+
 ghost use Rattle.std.specs.Prelude.{◌≡◌, ◌≤◌, length};
 
-use libc::{STDIN_FILENO, STDOUT_FILENO};
+use std::io;
+use std::io::{ErrorKind, Read};
 use whole_input::Output;
 
 // More cases than a list has.
@@ -28,30 +31,21 @@ fn bytes() -> [u8; 65536]
     [0; 65536]
 }
 
-// Two slices with the same bytes.
-fn same(a: &[u8], b: &[u8]) -> bool {
-    if a.len() != b.len() {
-        return false;
+// So many bytes of the list, to the front of a slice; whether there were as many.
+fn take(list: &mut impl Read, n: usize, to: &mut [u8]) -> io::Result<bool> {
+    if to.len() < n {
+        return Ok(false);
     }
-    let mut i = 0;
-    while i < a.len() {
-        if i < b.len() {
-            if a[i] != b[i] {
-                return false;
+    match list.read_exact(&mut to[0..n]) {
+        Ok(()) => Ok(true),
+        Err(e) => {
+            if e.kind() == ErrorKind::UnexpectedEof {
+                Ok(false)
+            } else {
+                Err(e)
             }
         }
-        i += 1;
     }
-    true
-}
-
-// So many bytes of the list, to the front of a slice; or none.
-fn take(n: usize, to: &mut [u8]) -> bool {
-    if to.len() < n {
-        return false;
-    }
-    let got = io::read_full(STDIN_FILENO, &mut to[0..n]);
-    got == n
 }
 
 // The length at a digit of a head.
@@ -72,55 +66,60 @@ fn answered(input: &[u8], expected: &[u8]) -> bool {
     let answer = whole_input::answer_input(input, &mut out);
     match answer {
         Output::NoRoom => false,
-        Output::Whole(n) => same(&out[0..n], expected),
+        Output::Whole(n) => &out[0..n] == expected,
     }
 }
 
 // The next case of the list.
-fn next_case(head: &mut [u8], input: &mut [u8], expected: &mut [u8]) -> Case {
+fn next_case(
+    list: &mut impl Read,
+    head: &mut [u8],
+    input: &mut [u8],
+    expected: &mut [u8],
+) -> io::Result<Case> {
     if head.len() < 17 {
-        return Case::Last;
+        return Ok(Case::Last);
     }
-    if !take(17, head) {
-        return Case::Last;
+    if !take(list, 17, head)? {
+        return Ok(Case::Last);
     }
     let given = size_at(&head[0..16], 0);
     let told = size_at(&head[0..16], 4);
     if input.len() < given {
-        return Case::Wrong;
+        return Ok(Case::Wrong);
     }
     if expected.len() < told {
-        return Case::Wrong;
+        return Ok(Case::Wrong);
     }
-    if !take(given, input) {
-        return Case::Wrong;
+    if !take(list, given, input)? {
+        return Ok(Case::Wrong);
     }
-    if !take(told, expected) {
-        return Case::Wrong;
+    if !take(list, told, expected)? {
+        return Ok(Case::Wrong);
     }
     if answered(&input[0..given], &expected[0..told]) {
-        return Case::Right;
+        return Ok(Case::Right);
     }
-    Case::Wrong
-}
-
-fn number(before: &[u8], n: usize, after: &[u8]) {
-    io::write_all(STDOUT_FILENO, before);
-    io::print_decimal(STDOUT_FILENO, n as u64);
-    io::write_all(STDOUT_FILENO, after);
+    Ok(Case::Wrong)
 }
 
 // Case after case.
-fn run(head: &mut [u8], input: &mut [u8], expected: &mut [u8]) -> Tally {
+fn run(
+    list: &mut impl Read,
+    out: &impl Print,
+    head: &mut [u8],
+    input: &mut [u8],
+    expected: &mut [u8],
+) -> io::Result<Tally> {
     let mut cases = 0;
     let mut wrong = 0;
     while cases < MAX_CASES {
-        let case = next_case(head, input, expected);
+        let case = next_case(list, head, input, expected)?;
         match case {
-            Case::Last => return Tally { cases, wrong },
+            Case::Last => return Ok(Tally { cases, wrong }),
             Case::Right => {}
             Case::Wrong => {
-                number(b"case ", cases, b" is answered otherwise\n");
+                println!(out; "case {cases} is answered otherwise")?;
                 if wrong < MAX_CASES {
                     wrong += 1;
                 }
@@ -128,14 +127,15 @@ fn run(head: &mut [u8], input: &mut [u8], expected: &mut [u8]) -> Tally {
         }
         cases += 1;
     }
-    Tally { cases, wrong }
+    Ok(Tally { cases, wrong })
 }
 
-fn main() {
+fn main(rt: HostRuntime) -> io::Result<()> {
     let mut head = [0u8; 17];
     let mut input = bytes();
     let mut expected = bytes();
-    let tally = run(&mut head, &mut input, &mut expected);
-    number(b"", tally.cases, b" cases, ");
-    number(b"", tally.wrong, b" answered otherwise\n");
+    let tally = run(&mut rt.stdin(), &rt, &mut head, &mut input, &mut expected)?;
+    let cases = tally.cases;
+    let wrong = tally.wrong;
+    println!(rt; "{cases} cases, {wrong} answered otherwise")
 }
