@@ -1,4 +1,8 @@
 // docs/RULES.md, "Frames", program `bench`: standard input holds frames, standard output gets the answers.
-fn main() {
-    standard_input::answer();
+#![tactic(auto)]
+
+use std::io;
+
+fn main(rt: HostRuntime) -> io::Result<()> {
+    standard_input::answer(&rt)
 }

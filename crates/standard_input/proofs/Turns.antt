@@ -4,25 +4,24 @@ use native.Mathlib.Omega.{arith}
 use native.Mathlib.Nat.{sub-zero}
 use mathlib.Core.Path.{◌≡◌, refl, sym, ap, ◌∙◌, subst}
 use mathlib.Core.Bool.{true}
-use mathlib.Core.List.{List, [], ◌++◌}
+use mathlib.Core.List.{List}
 use lib.ListN.{length, take, drop, length-append}
 use borrow.Rule.Slice.PartMut.{mid_of}
 use Rattle.edges.specs.Tables.{Slices}
 use Rattle.frames.specs.Input.{lines_of}
-use Rattle.frames.specs.LineLaws.{longest, unended}
+use Rattle.frames.specs.LineLaws.{unended}
 use Rattle.reader.specs.Columns.{Columns}
 use Rattle.session.specs.declared.Numbers.{Numbers}
-use Rattle.session.specs.Output.{Session, begin, answers}
-use Rattle.session.specs.Kept.{numbers_of, Sizes, Keeps, Kept}
+use Rattle.session.specs.Output.{begin, answers}
+use Rattle.session.specs.Kept.{Kept}
 use Rattle.stream.specs.declared.Place.{Place}
 use Rattle.stream.specs.declared.Fed.TheVariants as fed
-use Rattle.stream.specs.Fed.{start_place, Placed, At, Standing, Feeds}
+use Rattle.stream.specs.Fed.{start_place, Standing, Feeds}
 use Rattle.input_end.specs.Finish.{Finishes}
 use Rattle.stream.proofs.Begins.{begin_keeps}
 use Rattle.stream.proofs.Blocks.{appended_long}
 use Rattle.stream.specs.Long.{Long}
-use Rattle.standard_input.specs.Ready.{Ready, GoesOn}
-use Rattle.standard_input.specs.declared.Got.TheVariants as got
+use Rattle.standard_input.specs.Ready.{Ready}
 
 -- ---- before the first block
 

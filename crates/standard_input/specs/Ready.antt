@@ -17,7 +17,6 @@ pub record Ready (p : Place) (size : ℕ) (c : Columns) (g : Slices) (block line
 abbrev pub NextIn : Got → Columns → Slices → List ℕ → List ℕ → List ℕ → Type 0
 NextIn (got.Block q n) c g block line out = Ready q n c g block line out
 NextIn got.End c g block line out = Unit {0}
-NextIn got.Failed c g block line out = Unit {0}
 
 abbrev pub GoesOn : Place → ℕ → List ℕ → Got → List ℕ → Type 0
 GoesOn p size block r block' = (c : Columns) (g : Slices) (line out : List ℕ) → Ready p size c g block line out → NextIn r c g block' line out

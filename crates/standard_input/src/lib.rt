@@ -1,12 +1,15 @@
 // docs/RULES.md, "Frames", program `bench`: standard input in blocks, answered as `stream` and `input_end` say; what a block is answered with is written at once. The loop is all that is here,
-// and it is called with nothing lent, so that a program asks nothing of it.
-ghost use Rattle.std.specs.Prelude.{◌≡◌, [], ◌≤◌, length};
+// and it is called with no table lent, so that a program asks nothing of it.
+#![tactic(auto)]
+
+ghost use Rattle.std.specs.Prelude.{◌≡◌, [], ◌≤◌, IfOk, length};
 ghost use Rattle.edges.specs.Tables.{slices};
 ghost use Rattle.reader.specs.Columns.{columns_of};
 ghost use Rattle.stream.specs.Long.{Long};
 ghost use Rattle.standard_input.specs.Ready.{GoesOn};
 
-use libc::{STDIN_FILENO, STDOUT_FILENO};
+use std::io;
+use std::io::{Read, Write};
 use stream::{Fed, Place};
 
 #[derive(Clone, Copy)]
@@ -15,8 +18,6 @@ enum Got {
     Block { place: Place, size: usize },
     // the end of the input
     End,
-    // a read that failed
-    Failed,
 }
 
 // The bytes of a block, and of the output.
@@ -32,33 +33,29 @@ fn entries() -> [u32; 8192]
     [0; 8192]
 }
 
-// The front of the output; whether all of it is written.
-fn put(out: &[u8], n: usize) -> bool
+// The front of the output, written.
+fn put(to: &mut impl Write, out: &[u8], n: usize) -> io::Result<()>
     requires { n ≤ length out.now }
 {
-    io::write_all(STDOUT_FILENO, &out[0..n])
+    to.write_all(&out[0..n])
 }
 
-// The block, as far as it is not taken yet, or the next one.
-fn next_block(p: Place, size: usize, block: &mut [u8]) -> Got
-    ensures { GoesOn p size block.old result block.new }
+// The block, as far as it is not taken yet, or the next one, by one read.
+fn next_block(from: &mut impl Read, p: Place, size: usize, block: &mut [u8]) -> io::Result<Got>
+    ensures { IfOk result (λ got. GoesOn p size block.old got block.new) }
 {
     if p.taken < size {
-        return Got::Block {
+        return Ok(Got::Block {
             place: p,
             size: size,
-        };
+        });
     }
-    let got = libc::read(STDIN_FILENO, block);
-    if got < 0 {
-        return Got::Failed;
-    }
-    let n = io::count(got, block);
+    let n = from.read(block)?;
     if n == 0 {
-        return Got::End;
+        return Ok(Got::End);
     }
     let numbers = p.numbers;
-    Got::Block {
+    Ok(Got::Block {
         place: Place {
             numbers: numbers,
             used: p.used,
@@ -66,7 +63,7 @@ fn next_block(p: Place, size: usize, block: &mut [u8]) -> Got
             filled: 0,
         },
         size: n,
-    }
+    })
 }
 
 // The place once the output is written.
@@ -82,9 +79,11 @@ fn emptied(p: Place) -> Place
     }
 }
 
-// Block after block, each answered and the answers written, then the end of the input. Turns are counted down from more than can ever be taken, since nothing says that an input
-// ends. Long for its parameters, one a line.
+// Block after block, each answered and the answers written, then the end of the input. There are more turns than can ever be taken, since nothing says that an input ends. Long for
+// its parameters, one a line.
 fn serve(
+    from: &mut impl Read,
+    to: &mut impl Write,
     block: &mut [u8],
     line: &mut [u8],
     probability_bits: &mut [u64],
@@ -96,17 +95,14 @@ fn serve(
     edge_weight: &mut [f64],
     edge_obs: &mut [u64],
     out: &mut [u8],
-)
+) -> io::Result<()>
     requires { Long (columns_of probability_bits.old counts.old entries.old shot.old) (slices edge_u.old edge_v.old edge_weight.old edge_obs.old []) line.old out.old }
 {
     let mut place = stream::start();
     let mut size = 0;
-    let mut turns = 18446744073709551615u64;
-    while 0 < turns {
-        turns -= 1;
-        let got = next_block(place, size, block);
+    for _ in 0..u64::MAX {
+        let got = next_block(from, place, size, block)?;
         match got {
-            Got::Failed => return,
             Got::End => {
                 let n = input_end::finish(
                     place.numbers,
@@ -122,8 +118,7 @@ fn serve(
                     edge_obs,
                     out,
                 );
-                put(out, n);
-                return;
+                return put(to, out, n);
             }
             Got::Block { place: p, size: n } => {
                 let fed = stream::feed(
@@ -141,14 +136,9 @@ fn serve(
                     out,
                 );
                 match fed {
-                    Fed::Ended(filled) => {
-                        put(out, filled);
-                        return;
-                    }
+                    Fed::Ended(filled) => return put(to, out, filled),
                     Fed::On(q) => {
-                        if !put(out, q.filled) {
-                            return;
-                        }
+                        put(to, out, q.filled)?;
                         place = emptied(q);
                         size = n;
                     }
@@ -156,11 +146,12 @@ fn serve(
             }
         }
     }
+    Ok(())
 }
 
 // Standard input answered on standard output, to its end, to the first refusal, or until reading or writing fails: then nothing more is written, so that an output with neither
 // 8f nor ff at its end is known to be cut off. Long for its tables, one a line.
-pub fn answer() {
+pub fn answer(rt: &(impl Input + Print)) -> io::Result<()> {
     let mut block = bytes();
     let mut out = bytes();
     let mut line = [0u8; 2062];
@@ -173,6 +164,8 @@ pub fn answer() {
     let mut edge_weight = [0.0f64; 1024];
     let mut edge_obs = [0u64; 2048];
     serve(
+        &mut rt.reader(),
+        &mut io::writer(rt),
         &mut block,
         &mut line,
         &mut probability_bits,
@@ -184,5 +177,5 @@ pub fn answer() {
         &mut edge_weight,
         &mut edge_obs,
         &mut out,
-    );
+    )
 }
