@@ -35,17 +35,18 @@ count() {
     END { visit(want); print many }' crates.txt
 }
 
-# `bench` proved and built. The input is not for `rt`.
+# `bench` proved, built, and run on an empty input, as `rt run` does. What `rt` says is on standard error, a verdict for
+# each crate that it proves. The input is not for `rt`.
 prove() {
   local all left line
   all=$(count bench)
-  say "once only, \`bench\` is proved before it runs: $all crates, some 18 minutes on two slow processors"
-  RT_JOBS=${RT_JOBS:-4} rt check bench </dev/null | {
+  say "once only, \`bench\` is proved before it runs: $all crates, some 10 to 30 minutes"
+  (cd crates/bench && exec rt run </dev/null 2>&1 >/dev/null) | {
     left=$all
     while IFS= read -r line; do
       case $line in
-        "rt: "*" NOT PROVED"* | "rt: FAILED"*) echo "$line" >&2 ;;
-        "rt: "*" proved ("*)
+        *": error"* | "fn "*": not proved"* | "fn "*": no proof"* | "logic=not-proved"*) echo "$line" >&2 ;;
+        "logic=proved "*)
           left=$((left - 1))
           say "$left of $all crates left"
           ;;
@@ -74,17 +75,18 @@ fi
 # Standard output, under a number of its own: below, it is the pipe that the last line is taken from.
 { exec 4>&1; } || exit 3
 cd "$(dirname "$(readlink -f "$0")")"
-if [ ! -x target/bin/bench ]; then
+program=crates/bench/out/bench
+if [ ! -x "$program" ]; then
   prove || {
     say "\`bench\` could not be proved"
     exit 2
   }
 fi
 
-# A program in Rattle has no exit status: its last line tells how it ended. What stands between ends at the first write
-# that fails, and so does `bench`.
+# `bench` ends with 1 where reading or writing fails, and says why on standard error; else its last line tells how it
+# ended. What stands between ends at the first write that fails, and so does `bench`.
 cut=
-last=$({ target/bin/bench | tee --output-error=exit /dev/fd/3 >&4; } 3>&1 | tail -n 1) || cut=yes
+last=$({ "$program" | tee --output-error=exit /dev/fd/3 >&4; } 3>&1 | tail -n 1) || cut=yes
 if [ -z "$cut" ] && [[ $last =~ ^8f[0-9a-f]{32}$ ]]; then
   exit 0
 elif [ -z "$cut" ] && [[ $last =~ ^ff[0-9a-f]{2}$ ]]; then

@@ -4,8 +4,9 @@
 set -euo pipefail
 cd "$(dirname "$0")/.."
 
-if [ ! -x target/bin/bench ]; then
-  echo "tests: NOT RUN: bench.sh: target/bin/bench is not built"
+program=crates/bench/out/bench
+if [ ! -x "$program" ]; then
+  echo "tests: NOT RUN: bench.sh: $program is not built (rt run, in crates/bench)"
   exit 0
 fi
 dir=$(mktemp -d)
@@ -69,22 +70,36 @@ check "--help" "$status" 0
 grep -q '256 detectors, 1,024 mechanisms' "$dir/out" || wrong "--help: what is held is not told"
 
 # where `bench` is not built: a stand-in for `rt` says what `rt` says, and leaves a program
-mkdir "$dir/new" "$dir/path"
+mkdir -p "$dir/new/crates/bench" "$dir/path"
 cp bench.sh "$dir/new/"
-printf 'low:\nbench: low io\nother:\n' >"$dir/new/crates.txt"
+printf 'low:\nbench: low\nother:\n' >"$dir/new/crates.txt"
 cat >"$dir/path/rt" <<'RT'
 #!/bin/sh
-[ "$*" = "check bench" ] || exit 9
-printf 'rt: low proved (1 s)\nrt: bench proved (2 s)\nrt: bench ran, and wrote what it should (0 s)\nrt: ok, 2 crates proved\n'
-mkdir -p target/bin
-printf '#!/bin/sh\necho 8f00000000000000000000000000000000\n' >target/bin/bench
-chmod +x target/bin/bench
+[ "$*" = run ] && [ "${PWD##*/}" = bench ] || exit 9
+printf 'crate low: modules loaded=1 checked=1\nlogic=proved functions=1\ncrate bench: modules loaded=1 checked=1\nlogic=proved functions=1\n' >&2
+mkdir -p out
+printf '#!/bin/sh\necho 8f00000000000000000000000000000000\n' >out/bench
+chmod +x out/bench
+echo "rt: running out/bench" >&2
+exec out/bench
 RT
 chmod +x "$dir/path/rt"
 run env PATH="$dir/path:$PATH" "$dir/new/bench.sh" $example.in
 check "a program that is proved first" "$status" 0
 head -n 1 "$dir/err" | grep -q 'once only.* 2 crates' || wrong "the first line does not say that this happens once, and for how many crates"
 [ "$(sed -n 's/^bench.sh: \(.*\) of 2 crates left$/\1/p' "$dir/err" | tr '\n' ' ')" = '1 0 ' ] || wrong "the crates left are counted otherwise"
+[ "$(cat "$dir/out")" = 8f00000000000000000000000000000000 ] || wrong "what is written where \`rt\` runs the program is not the program's own output alone"
+
+# and where it cannot be proved
+rm -r "$dir/new/crates/bench/out"
+cat >"$dir/path/rt" <<'RT'
+#!/bin/sh
+printf 'fn low::f: not proved\nlogic=not-proved\n' >&2
+exit 1
+RT
+run env PATH="$dir/path:$PATH" "$dir/new/bench.sh" $example.in
+check "a program that is not proved" "$status" 2
+grep -q '^fn low::f: not proved$' "$dir/err" || wrong "a program that is not proved: the function is not told"
 
 # a read that fails: a folder, and a pipe that is empty and does not wait
 run ./bench.sh examples
@@ -109,16 +124,16 @@ status=0
 timeout 30 ./bench.sh - < <(endless) >/dev/full 2>"$dir/err" || status=$?
 check "a full device" "$status" 3
 status=0
-timeout 30 target/bin/bench < <(endless) >/dev/full 2>"$dir/err" || status=$?
-check "a full device, the program alone" "$status" 0
+timeout 30 "$program" < <(endless) >/dev/full 2>"$dir/err" || status=$?
+check "a full device, the program alone" "$status" 1
 statuses=(0 0)
 timeout 30 ./bench.sh - < <(endless) 2>"$dir/err" | head -n 1 >"$dir/out" || statuses=("${PIPESTATUS[@]}")
 check "a reader that is gone" "${statuses[0]}" 3
 head -n 1 $example.out | cmp -s - "$dir/out" || wrong "a reader that is gone: the first line is another"
 statuses=(0 0)
-(trap '' PIPE && timeout 30 target/bin/bench) < <(endless) 2>"$dir/err" | head -n 1 >"$dir/out" ||
+(trap '' PIPE && timeout 30 "$program") < <(endless) 2>"$dir/err" | head -n 1 >"$dir/out" ||
   statuses=("${PIPESTATUS[@]}")
-check "a reader that is gone, with no signal" "${statuses[0]}" 0
+check "a reader that is gone, with no signal" "${statuses[0]}" 1
 
 [ "$failed" -eq 0 ] && echo "tests: bench.sh: ok"
 exit "$failed"
