@@ -9,7 +9,7 @@ import sys
 from pathlib import Path
 
 TOP = Path(__file__).resolve().parent.parent
-KIT = ["check", "anyhow", "thiserror", "io"]
+KIT = ["check", "anyhow", "thiserror"]  # of the kit, what is listed where it is named
 PROOFS = re.compile(r"Rattle\.([a-z_0-9]+)\.")
 CODE = re.compile(r"(?<![\w:])([a-z_0-9]+)::")
 COMMENT = re.compile(r"^\s*(//|--).*$", re.M)

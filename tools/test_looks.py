@@ -23,9 +23,9 @@ class Tree(unittest.TestCase):
         room = tempfile.TemporaryDirectory()
         self.addCleanup(room.cleanup)
         self.top = Path(room.name)
-        self.put("crates.txt", "# a comment: low\nlow:\nhigh: low io\n")
+        self.put("crates.txt", "# a comment: low\nlow:\nhigh: low check\n")
         self.put("crates/low/src/lib.rt", "pub fn one() -> u8 {\n    1\n}\n")
-        self.put("crates/high/src/main.rt", "// deep::down is only told of\nfn main() {\n    io::print(low::one());\n}\n")
+        self.put("crates/high/src/main.rt", "// deep::down is only told of\nfn main() {\n    check::expect(low::one() == 1);\n}\n")
         self.put("crates/low/must-fail/two.edit", "It answers two.\nfile: src/lib.rt\nold:     1\nnew:     2\n")
         edits.TOP = deps.TOP = self.top
 
@@ -68,7 +68,7 @@ class Edits(Tree):
 class Deps(Tree):
     def test_what_a_crate_names(self):
         known = [*deps.listed(), *deps.KIT]
-        self.assertEqual(deps.named("high", known), ["low", "io"])
+        self.assertEqual(deps.named("high", known), ["low", "check"])
         self.assertEqual(deps.named("low", known), [])
 
     def test_names_of_proofs(self):
@@ -78,13 +78,13 @@ class Deps(Tree):
 
 class Where(unittest.TestCase):
     def test_names_of_modules(self):
-        self.assertEqual(where.module("Rattle·dem·proofs.proofs.check_list.Lts.decls.oantt"), "check_list.Lts")
-        self.assertEqual(where.module("Rattle·dem·specs.specs.Model.oantt"), "Model")
-        self.assertEqual(where.module("Rattle·dem.oantt"), "the crate's interface")
+        self.assertEqual(where.module("Rattle-dem-proofs.check_list.Lts.decls.oantt"), "check_list.Lts")
+        self.assertEqual(where.module("Rattle-dem-specs.Model.oantt"), "Model")
+        self.assertEqual(where.module("Rattle-dem.oantt"), "the crate's interface")
 
     def test_a_module_has_the_time_since_the_file_before(self):
         second = 10**9
-        stamps = [(7 * second, "Rattle·a·proofs.proofs.f.Lts.decls.oantt"), (2 * second, "Rattle·a·specs.specs.M.oantt"), (8 * second, "Rattle·a·proofs.proofs.f.Lts.oantt")]
+        stamps = [(7 * second, "Rattle-a-proofs.f.Lts.decls.oantt"), (2 * second, "Rattle-a-specs.M.oantt"), (8 * second, "Rattle-a-proofs.f.Lts.oantt")]
         self.assertEqual(where.spent(stamps), [("f.Lts", 6.0)])
 
 
