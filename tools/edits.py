@@ -8,7 +8,8 @@ import re
 import sys
 from pathlib import Path
 
-SHAPE = re.compile(r"^rt: must-fail (\S+)\.edit: .*only because a proof file names what the edit took away")
+# what rt says where it notices, and an error of a name, which it may print over several lines and then not notice
+SHAPE = re.compile(r"^rt: must-fail (\S+)\.edit: .*(only because a proof file names what the edit took away|error: `[^`]+`: (record|module) `|has no field `|is not in scope)")
 BAD = re.compile(r"^rt: (?:must-fail |crates/)(\S+)\.edit: BAD EDIT")
 TOP = Path(__file__).resolve().parent.parent
 

@@ -60,7 +60,9 @@ class Edits(Tree):
     def test_refused_for_its_shape(self):
         said = "rt: must-fail low/two.edit: refused, as it must be"
         shape = said + " (only because a proof file names what the edit took away, so this says little of the contract: ..): x"
-        self.assertEqual(list(edits.told(shape)), [("low/two", "was refused for its shape")])
+        field = said + ": ./proofs/one/Answers.antt:42:214: error: `returns`: record `Rattle.low.proofs.one.Lts.Else`"
+        for line in (shape, field):
+            self.assertEqual(list(edits.told(line)), [("low/two", "was refused for its shape")])
         self.assertEqual(list(edits.told("rt: must-fail low/two.edit: BAD EDIT: it changes nothing")), [("low/two", "is bad: it changes nothing")])
         self.assertEqual(list(edits.told(said + ": ./proofs/one/Answers.antt:9:1: error: `returns`: 1 is not 2\n")), [])
 

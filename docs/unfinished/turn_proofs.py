@@ -4,10 +4,12 @@
 TOP is the top of the repository, NAMES the names.json that `rt check --generated DIR --old-names` writes in the crate's folder, once the crates below it
 are proved. A line `left:` tells what is to be done by hand; `rt check` decides. The old files stay as Proof.antt.old.
 """
-import collections, json, pathlib, re, sys
+import json
+import pathlib
+import re
+import sys
 
 W = r"[^\s(){}.;,@\"«»\[\]\\]+"
-PATH = re.compile(r"(?<![^\s(\[{,;])(%s)((?:\.%s)+)" % (W, W))
 norm = lambda s: re.sub(r"[-_]", "-", s)
 strip = lambda s: re.sub(r"^(overflow-|nonzero-|slice-bounds-|bounds-|part-)", "", norm(s))
 
@@ -32,7 +34,7 @@ def chunks(text):
     while i < len(lines):
         line = lines[i]
         if not line.strip():
-            comment = comment if comment and False else []
+            comment = []
             i += 1
             continue
         if line.startswith("--"):
@@ -379,11 +381,9 @@ def turn(top, crate, names, only):
                 params[-1] = "c"
             # clauses
             cl = []
-            base = re.sub(r"-requires.*", "", new)
             if re.match(r"returns", new):
                 cl = t.clauses(f"{crate}::{fn.split('.')[-1].lstrip('+')}", "ensures")
             elif "-requires" in new:
-                place = dict((a[1], b) for a, b in zip(n["needs"], n["asked_at"]))[new]
                 old = next(o for o, w in n["needs"] if w == new)
                 base = re.sub(r"-requires(-\d+)?$", "", norm(old))
                 hits = {p[3] for p in n["places"] if p[3] and re.sub(r"\d+$", "", norm(p[2][0])) == base}
