@@ -5,10 +5,13 @@ ghost use Rattle.std.specs.Prelude.{◌+◌, ◌*◌, ◌<◌, ◌≤◌, ◌≡
 ghost use Rattle.adjacency.specs.Adjacent.{Sized, Counted, Summed, Put, Adjacent};
 ghost use Rattle.adjacency.specs.Pairs.{near, away, Tabled, AdjacentParts};
 
-// The columns of a row.
-pub const EDGE: usize = 0;
-
-pub const OTHER: usize = 1;
+// An edge at a detector, and its other end.
+#[repr(C)]
+#[derive(Clone, Copy)]
+pub struct Neighbor {
+    pub edge: u32,
+    pub other: u32,
+}
 
 const BOUNDARY: u32 = 4294967295;
 
@@ -18,15 +21,13 @@ fn degrees(d: usize, edge_u: &[u32], edge_v: &[u32], adj_offsets: &mut [u32])
     requires adj_offsets_value { adj_offsets.old ≡ replicate (length adj_offsets.old) 0 }
     ensures { Counted d edge_u.now edge_v.now adj_offsets.new }
 {
-    let mut e = edge_u.len();
-    while 0 < e {
-        e -= 1;
+    for e in (0..edge_u.len()).rev() {
         let a = edge_u[e] as usize;
-        adj_offsets[a] = adj_offsets[a] + 1;
+        adj_offsets[a] += 1;
         let far = edge_v[e];
         if far != BOUNDARY {
             let b = far as usize;
-            adj_offsets[b] = adj_offsets[b] + 1;
+            adj_offsets[b] += 1;
         }
     }
 }
@@ -38,36 +39,32 @@ fn sums(d: usize, edge_u: &[u32], edge_v: &[u32], adj_offsets: &mut [u32])
     ensures { Summed d edge_u.now edge_v.now adj_offsets.new }
 {
     let mut sum = 0;
-    let mut x = 0;
-    while x < d {
+    for x in 0..d {
         sum += adj_offsets[x];
         adj_offsets[x] = sum;
-        x += 1;
     }
     adj_offsets[d] = sum;
 }
 
 // Puts the edge e, whose other end is y, before the edges of x.
-fn put(adj_offsets: &mut [u32], adj: &mut [[u32; 2]], x: usize, e: u32, y: u32)
+fn put(adj_offsets: &mut [u32], adj: &mut [Neighbor], x: usize, e: u32, y: u32)
     requires { (x < length adj_offsets.old) × (0 < get_or adj_offsets.old x 0) × (get_or adj_offsets.old x 0 ≤ length adj.old) }
     ensures { Put adj_offsets.old (near adj.old) (away adj.old) adj_offsets.new (near adj.new) (away adj.new) x e y }
 {
     let i = adj_offsets[x] - 1;
     adj_offsets[x] = i;
     let at = i as usize;
-    adj[at] = [e, y];
+    adj[at] = Neighbor { edge: e, other: y };
 }
 
 // Puts every edge at its ends, the last first, so that each detector's come out ascending.
-fn fill(d: usize, edge_u: &[u32], edge_v: &[u32], adj_offsets: &mut [u32], adj: &mut [[u32; 2]])
+fn fill(d: usize, edge_u: &[u32], edge_v: &[u32], adj_offsets: &mut [u32], adj: &mut [Neighbor])
     requires sized { Sized d edge_u.now edge_v.now adj_offsets.old }
     requires summed { Summed d edge_u.now edge_v.now adj_offsets.old }
     requires edge_u_in_bounds { 2 * length edge_u.now ≤ length adj.old }
     ensures { Adjacent d edge_u.now edge_v.now adj_offsets.new (near adj.new) (away adj.new) }
 {
-    let mut e = edge_u.len();
-    while 0 < e {
-        e -= 1;
+    for e in (0..edge_u.len()).rev() {
         let a = edge_u[e];
         let b = edge_v[e];
         if b != BOUNDARY {
@@ -85,13 +82,13 @@ pub fn adjacency(
     edge_u: &[u32],
     edge_v: &[u32],
     adj_offsets: &mut [u32],
-    adj: &mut [[u32; 2]],
+    adj: &mut [Neighbor],
 )
     requires sized { Sized d edge_u.now edge_v.now adj_offsets.old }
     requires edge_u_in_bounds { 2 * length edge_u.now ≤ length adj.old }
     ensures { Adjacent d edge_u.now edge_v.now adj_offsets.new (near adj.new) (away adj.new) }
 {
-    tables::fill_u32(adj_offsets, 0);
+    adj_offsets.fill(0);
     degrees(d, edge_u, edge_v, adj_offsets);
     sums(d, edge_u, edge_v, adj_offsets);
     fill(d, edge_u, edge_v, adj_offsets, adj);
@@ -104,7 +101,7 @@ pub fn tabulate(
     edge_u: &[u32],
     edge_v: &[u32],
     adj_offsets: &mut [u32],
-    adj: &mut [[u32; 2]],
+    adj: &mut [Neighbor],
 )
     requires { Tabled detectors edges edge_u.now edge_v.now adj_offsets.old adj.old }
     ensures { AdjacentParts detectors edges edge_u.now edge_v.now adj_offsets.new adj.new }

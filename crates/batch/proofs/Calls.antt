@@ -1,4 +1,6 @@
 -- The call put together: the tests of its own slices, what an accepted batch has, and what it answers and leaves.
+use Rattle.codes.specs.Order.{Checked}
+use Rattle.std.specs.Prelude.{Ok, Err}
 use Prim.Native.Nat.{ℕ, ◌*◌, ◌≤◌}
 use native.Mathlib.Omega.{arith}
 use mathlib.Core.Path.{◌≡◌, refl, sym, ap, ◌∙◌}
@@ -12,8 +14,6 @@ use Rattle.lists.proofs.Truth.{and_left, and_right}
 use Rattle.bits.specs.Rows.{words}
 use Rattle.codes.specs.Codes.{checked_row}
 use Rattle.codes.specs.declared.Refusal.{Refusal}
-use Rattle.codes.specs.declared.Checked.{Checked}
-use Rattle.codes.specs.declared.Checked.TheVariants.{Accepted, Refused}
 use Rattle.scratch.specs.Scratch.{scratch_long}
 use Rattle.scratch.specs.Laws.{Long}
 use Rattle.scratch.proofs.Laws.{scratch_long_lem}
@@ -35,11 +35,11 @@ module _ (h : Handed) where
   unfolding checks
   checks_by long c p q = q ∙ ap (λ (b : Bool). check_call h.graph b h.rows h.shots h.width) p
 
-  pub refused : {r : Refusal} → Refused r ≡ checks h → Decodes h (Refused r) h.out
+  pub refused : {r : Refusal} → Err r ≡ checks h → Decodes h (Err r) h.out
   refused e = record { sheet = rw (sym e) refl; answers = rw (sym e) refl; rows = rw (sym e) refl }
 
   -- what an accepted call has
-  module _ (a : Accepted ≡ checks h) where
+  module _ (a : (Ok tt) ≡ checks h) where
     pub accepts : Accepts h.graph (own_long h) h.rows h.shots h.width
     unfolding checks
     accepts = call_accepted h.graph (own_long h) h.rows h.shots h.width (sym a)

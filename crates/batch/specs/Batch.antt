@@ -1,12 +1,11 @@
 -- The call that decodes a batch: docs/RULES.md, "Shots and rows" and "Refusals".
+use Rattle.std.specs.Prelude.{Ok, Err}
 use Rattle.std.specs.Prelude.{ℕ, ◌*◌, ◌≡◌, List, Bool, ◌&&◌, length}
 use Rattle.std.proofs.Math.Dec.{leb}
 use Rattle.lists.specs.Lists.{below}
 use Rattle.bits.specs.Rows.{words}
 use Rattle.codes.specs.Codes.{checked_row}
-use Rattle.codes.specs.declared.Checked.{Checked}
-use Rattle.codes.specs.declared.Checked.TheVariants.{Accepted, Refused}
-use Rattle.codes.specs.Order.{and_then}
+use Rattle.codes.specs.Order.{Checked, and_then}
 use Rattle.scratch.specs.declared.Lengths.{Lengths}
 use Rattle.scratch.specs.Scratch.{scratch_long}
 use Rattle.lent_graph.specs.Call.{Lent, graph_in, check_call}
@@ -44,8 +43,8 @@ module _ (h : Handed) where
 
 -- the output: untouched where a check refuses
 abbrev pub out_after : Checked → List ℕ → List ℕ → List ℕ
-out_after (Refused r) was done = was
-out_after Accepted was done = done
+out_after (Err r) was done = was
+out_after (Ok tt) was done = done
 
 -- all that the call promises. What the list and the scratch slices hold after it is free.
 pub record Decodes (h : Handed) (r : Checked) (out : List ℕ) : Type 0 where

@@ -6,6 +6,8 @@ ghost use Rattle.scratch.specs.Scratch.{lengths_of};
 ghost use Rattle.lent_graph.specs.Call.{lent_of};
 ghost use Rattle.batch.specs.Batch.{handed, Decodes};
 
+use adjacency::Neighbor;
+use cells::{Flags, Link, Node, Stack};
 use codes::Checked;
 use scratch::Lengths;
 
@@ -17,11 +19,11 @@ pub fn decode_batch(
     out: &mut [u64],
     list: &mut [u32],
     adj_offsets: &mut [u32],
-    adj: &mut [[u32; 2]],
-    tree: &mut [[u32; 2]],
-    flags: &mut [[bool; 8]],
-    stacks: &mut [[u32; 6]],
-    links: &mut [[u32; 4]],
+    adj: &mut [Neighbor],
+    tree: &mut [Node],
+    flags: &mut [Flags],
+    stacks: &mut [Stack],
+    links: &mut [Link],
     growth: &mut [f64],
     sat: &mut [bool],
     edge_u: &[u32],
@@ -53,7 +55,7 @@ pub fn decode_batch(
         list.len(),
         have,
     );
-    let checked = lent_graph::check_call(
+    lent_graph::check_call(
         detectors,
         observables,
         edges,
@@ -65,10 +67,7 @@ pub fn decode_batch(
         rows,
         shots,
         width,
-    );
-    if let Checked::Refused(r) = checked {
-        return Checked::Refused(r);
-    }
+    )?;
     adjacency::tabulate(detectors, edges, edge_u, edge_v, adj_offsets, adj);
     batch_rows::reset_and_decode_rows(
         detectors,

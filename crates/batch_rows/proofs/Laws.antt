@@ -1,10 +1,9 @@
 -- What a batch leaves, row by row, proved.
+use Rattle.std.specs.Prelude.{Ok, Err}
 use Prim.Native.Nat.{ℕ, zero, suc, ◌+◌, ◌*◌, ◌≤◌, ◌<◌}
-use native.Mathlib.Nat.{mul-le-mul_right}
 use native.Mathlib.Omega.{arith}
 use mathlib.Core.Path.{◌≡◌, refl, sym, ap, ◌∙◌}
-use mathlib.Core.List.{List, []}
-use mathlib.Core.Bool.{true, false}
+use mathlib.Core.List.{List}
 use lib.Dec.{eqb}
 use lib.ListN.{length, take, drop, length-replicate}
 use lib.Seq.{take-take}
@@ -14,15 +13,14 @@ use Rattle.lists.proofs.Truth.{case-of}
 use Rattle.bits.specs.Rows.{words}
 use Rattle.bits.proofs.Rows.{length_xor}
 use Rattle.codes.specs.declared.Refusal.TheVariants.{Stuck}
-use Rattle.codes.specs.declared.Checked.TheVariants.{Accepted, Refused}
 use Rattle.packed.specs.Packed.{row_at}
 use Rattle.steps.specs.Graph.{Graph}
 use Rattle.steps.specs.Rows.{zeros, row_of}
 use Rattle.steps.specs.Shot.{Decoded, impossible, corrected, row_left, row_after}
 use Rattle.batch_rows.specs.Row.{put_row, shot_at, row_for}
 use Rattle.batch_rows.specs.Rows.{check_shots_of, rows_of}
-use Rattle.batch_rows.specs.Laws.{Done, Stopped, RowAlone, RowsBefore}
-use Rattle.batch_rows.proofs.Put.{next_row, row_inside, put_length, put_before, put_own, put_after, put_later, row_taken}
+use Rattle.batch_rows.specs.Laws.{RowAlone, RowsBefore}
+use Rattle.batch_rows.proofs.Put.{next_row, row_inside, put_length, put_before, put_own, put_later, row_taken}
 
 -- a shot is Stuck or it is not
 by_shot {ℓ} : {C : Type ℓ} (x : Decoded) → ((n d : ℕ) → x ≡ impossible n d → C) → ((n : ℕ) (list : List ℕ) → x ≡ corrected n list → C) → C
@@ -54,7 +52,7 @@ module _ (g : Graph) (rows : List ℕ) where
   unfolding rows_of from
   rows_done n a out e = rw e
 
-  check_stuck : (n a : ℕ) {k d : ℕ} → shot_at g rows a ≡ impossible k d → check_shots_of g rows (from (suc n) a) ≡ Refused (Stuck a d)
+  check_stuck : (n a : ℕ) {k d : ℕ} → shot_at g rows a ≡ impossible k d → check_shots_of g rows (from (suc n) a) ≡ Err (Stuck a d)
   unfolding check_shots_of from
   check_stuck n a e = rw e
 
@@ -121,7 +119,7 @@ module _ (g : Graph) (rows : List ℕ) where
     row : (s : ℕ) → a ≤ s → s < n + a → row_at W (Rows n a out) s ≡ row_for g rows s
     past : drop ((n + a) * W) (Rows n a out) ≡ drop ((n + a) * W) out
 
-  all_done : (n a : ℕ) (out : List ℕ) → (n + a) * W ≤ length out → check_shots_of g rows (from n a) ≡ Accepted → All n a out
+  all_done : (n a : ℕ) (out : List ℕ) → (n + a) * W ≤ length out → check_shots_of g rows (from n a) ≡ Ok tt → All n a out
   all_done zero a out room h = record { row = λ s p q. absurd (omega arith); past = ap (drop ((0 + a) * W)) (rows_none a out) }
   all_done (suc n) a out room h = by_shot (shot_at g rows a)
       (λ k d e. absurd (let f = sym (check_stuck n a e) ∙ h in let z : ◌≡◌ {A = ℕ} 0 1 = cc in omega arith))
@@ -145,7 +143,7 @@ module _ (g : Graph) (rows : List ℕ) where
     own : row_at W (Rows n a out) t ≡ row_for g rows t
     later : drop (t * W + W) (Rows n a out) ≡ drop (t * W + W) out
 
-  first_stuck_lem : (n a t d : ℕ) (out : List ℕ) → (n + a) * W ≤ length out → check_shots_of g rows (from n a) ≡ Refused (Stuck t d) → First n a t d out
+  first_stuck_lem : (n a t d : ℕ) (out : List ℕ) → (n + a) * W ≤ length out → check_shots_of g rows (from n a) ≡ Err (Stuck t d) → First n a t d out
   unfolding check_shots_of from
   first_stuck_lem zero a t d out room h = absurd (let z : ◌≡◌ {A = ℕ} 0 1 = cc in omega arith)
   first_stuck_lem (suc n) a t d out room h = by_shot (shot_at g rows a)

@@ -1,4 +1,5 @@
 -- A turn of the batch: the answer from the next shot on is the answer from this one on.
+use Rattle.std.specs.Prelude.{Ok, Err}
 use Prim.Native.Nat.{ℕ, ◌+◌, ◌-◌, ◌≤◌, ◌<◌}
 use native.Mathlib.Omega.{arith}
 use mathlib.Core.Path.{◌≡◌, sym, ap, ◌∙◌}
@@ -10,17 +11,18 @@ use Rattle.lists.specs.Lists.{from}
 use Rattle.lists.proofs.Ranges.{left_one, left_none}
 use Rattle.bits.specs.Rows.{words}
 use Rattle.codes.specs.declared.Refusal.TheVariants.{Stuck}
-use Rattle.codes.specs.declared.Checked.TheVariants.{Accepted, Refused}
 use Rattle.steps.specs.Graph.{Graph}
 use Rattle.steps.specs.Shot.{Decoded, impossible, corrected}
 use Rattle.steps.specs.Call.{graph_of}
-use Rattle.columns.specs.Columns.{Wide}
-use Rattle.columns.proofs.Columns.{column_length}
-use Rattle.cells.specs.Tables.{Words, Flags, parents, exits, lits, knowns, odds, hots, frees, defects, seen, active, front, order_edge, order_parent, touched, cnt, fresh}
+use Rattle.cells.specs.declared.Node.{Node}
+use Rattle.cells.specs.declared.Flags.{Flags}
+use Rattle.cells.specs.declared.Stack.{Stack}
+use Rattle.cells.specs.declared.Link.{Link}
+use Rattle.cells.specs.Tables.{parents, exits, lits, knowns, odds, hots, frees}
 use Rattle.rest.specs.Clean.{Clean}
 use Rattle.shot.specs.declared.Shot.{Shot}
 use Rattle.shot.specs.declared.Shot.TheVariants as shot
-use Rattle.shot.specs.Shots.{Places, graph_in, shot_of}
+use Rattle.shot.specs.Shots.{graph_in, shot_of}
 use Rattle.batch_rows.specs.Ready.{Ready}
 use Rattle.batch_rows.specs.Row.{put_row, shot_at, row_for, GivenRow}
 use Rattle.batch_rows.proofs.Put.{row_inside}
@@ -37,7 +39,7 @@ decoded_is (impossible n d) e = absurd (let z : ◌≡◌ {A = ℕ} 0 1 = cc in 
 decoded_is (corrected n list) e = (list, cc)
 
 module _ (g : Graph) (rows out : List ℕ) (shots s : ℕ) where
-  pub end_answer : shots ≤ s → Accepted ≡ check_shots_of g rows (from (shots - s) s)
+  pub end_answer : shots ≤ s → (Ok tt) ≡ check_shots_of g rows (from (shots - s) s)
   unfolding check_shots_of
   end_answer h = rw (left_none shots s h)
 
@@ -46,7 +48,7 @@ module _ (g : Graph) (rows out : List ℕ) (shots s : ℕ) where
   end_rows h = rw (left_none shots s h)
 
   module _ (h : s < shots) where
-    stop_answer : {n d : ℕ} → shot_at g rows s ≡ impossible n d → Refused (Stuck s d) ≡ check_shots_of g rows (from (shots - s) s)
+    stop_answer : {n d : ℕ} → shot_at g rows s ≡ impossible n d → Err (Stuck s d) ≡ check_shots_of g rows (from (shots - s) s)
     unfolding check_shots_of
     stop_answer e = rw (left_one shots s h, e)
 
@@ -77,7 +79,7 @@ module _ (d o : ℕ) (u v : List ℕ) (weight : List Float) (obs rows out out' :
   unfolding graph_of
   now_is e = e
 
-  pub stops : {n k : ℕ} {found : Shot} → found ≡ shot.Stuck n k → Found found → (Refused (Stuck s k) ≡ check_shots_of H rows (from (shots - s) s)) × (out' ≡ rows_of H rows (from (shots - s) s) out)
+  pub stops : {n k : ℕ} {found : Shot} → found ≡ shot.Stuck n k → Found found → (Err (Stuck s k) ≡ check_shots_of H rows (from (shots - s) s)) × (out' ≡ rows_of H rows (from (shots - s) s) out)
   stops a f =
       let e = stuck_is (shot_at H rows s) (sym a ∙ f.0) in
       (stop_answer H rows out shots s h e, now_is f.1 ∙ stop_rows H rows out shots s h e)
@@ -104,30 +106,13 @@ given_row {d} {o} {shots} {s} k h out list' a b = record {
 
 -- ---- what a shot asks and leaves to the next
 
--- places in the stacks and the links
-pub places : {d E : ℕ} {tree : Words} {flags : Flags} {stacks links : Words} {growth : List Float} {sat : List Bool} → Ready d E tree flags stacks links growth sat
-    → Places d E (defects stacks) (seen stacks) (active stacks) (front stacks) (touched links) (cnt links) (fresh links) (order_edge stacks) (order_parent stacks)
-places {stacks = stacks} {links = links} k = record {
-  lit_ones = omega (arith, k.stack_rows, column_length 0 0 stacks);
-  seens = omega (arith, k.stack_rows, column_length 0 1 stacks);
-  actives = omega (arith, k.stack_rows, column_length 0 2 stacks);
-  fronts = omega (arith, k.stack_rows, column_length 0 3 stacks);
-  touches = omega (arith, k.link_rows, column_length 0 0 links);
-  counts = omega (arith, k.link_rows, column_length 0 1 links);
-  freshes = omega (arith, k.link_rows, column_length 0 2 links);
-  trees = omega (arith, k.stack_rows, column_length 0 4 stacks);
-  parents = omega (arith, k.stack_rows, column_length 0 5 stacks);
-}
-
 -- tables at rest after a shot, with as many rows
-pub ready_on : {d E : ℕ} {tree : Words} {flags : Flags} {stacks links : Words} {growth : List Float} {sat : List Bool} → Ready d E tree flags stacks links growth sat
-    → {tree' : Words} {flags' : Flags} {stacks' links' : Words} {growth' : List Float} {sat' : List Bool}
+pub ready_on : {d E : ℕ} {tree : List Node} {flags : List Flags} {stacks : List Stack} {links : List Link} {growth : List Float} {sat : List Bool} → Ready d E tree flags stacks links growth sat
+    → {tree' : List Node} {flags' : List Flags} {stacks' : List Stack} {links' : List Link} {growth' : List Float} {sat' : List Bool}
     → Clean d E (lits flags') growth' sat' (knowns flags') (parents tree') (odds flags') (exits tree') (hots flags') (frees flags')
-    → Wide 2 tree' × Wide 8 flags' × Wide 6 stacks' × Wide 4 links' → length stacks' ≡ length stacks → length links' ≡ length links → Ready d E tree' flags' stacks' links' growth' sat'
-ready_on k c w p q = record {
-  rested = record { clean = c; trees = w.0; flagged = w.1 };
-  stacked = w.2;
-  linked = w.3;
+    → length stacks' ≡ length stacks → length links' ≡ length links → Ready d E tree' flags' stacks' links' growth' sat'
+ready_on k c p q = record {
+  rested = record { clean = c };
   stack_rows = omega (arith, k.stack_rows, p);
   link_rows = omega (arith, k.link_rows, q);
 }

@@ -1,9 +1,9 @@
 -- What a batch leaves, row by row. Each statement is proved in proofs/ under the same name in small letters.
+use Rattle.std.specs.Prelude.{Ok, Err}
 use Rattle.std.specs.Prelude.{ℕ, ◌+◌, ◌*◌, ◌≤◌, ◌<◌, ◌≡◌, List, length, drop}
 use Rattle.lists.specs.Lists.{below}
 use Rattle.bits.specs.Rows.{words}
 use Rattle.codes.specs.declared.Refusal.TheVariants.{Stuck}
-use Rattle.codes.specs.declared.Checked.TheVariants.{Accepted, Refused}
 use Rattle.packed.specs.Packed.{row_at}
 use Rattle.steps.specs.Graph.{Graph}
 use Rattle.steps.specs.Rows.{zeros}
@@ -31,7 +31,7 @@ module _ (g : Graph) (rows : List ℕ) (shots : ℕ) (out : List ℕ) where
     pub later : drop (t * words g.observables + words g.observables) (rows_of g rows (below shots) out) ≡ drop (t * words g.observables + words g.observables) out
 
   abbrev pub RowAlone : Type 0
-  RowAlone = shots * words g.observables ≤ length out → check_shots_of g rows (below shots) ≡ Accepted → Done
+  RowAlone = shots * words g.observables ≤ length out → check_shots_of g rows (below shots) ≡ Ok tt → Done
 
   abbrev pub RowsBefore : Type 0
-  RowsBefore = (t d : ℕ) → shots * words g.observables ≤ length out → check_shots_of g rows (below shots) ≡ Refused (Stuck t d) → Stopped t d
+  RowsBefore = (t d : ℕ) → shots * words g.observables ≤ length out → check_shots_of g rows (below shots) ≡ Err (Stuck t d) → Stopped t d

@@ -1,11 +1,10 @@
 -- The shots of a batch, in order, and the rows that they leave: docs/RULES.md, "Shots and rows" and "Refusals".
+use Rattle.std.specs.Prelude.{Ok, Err}
 use Rattle.std.specs.Prelude.{ℕ, ◌*◌, ◌<◌, ◌≤◌, ◌≡◌, true, length}
 use mathlib.Core.List.{List, [], ◌∷◌}
 use Rattle.bits.specs.Rows.{words, is_clear}
 use Rattle.codes.specs.declared.Refusal.TheVariants.{Stuck}
-use Rattle.codes.specs.declared.Checked.{Checked}
-use Rattle.codes.specs.declared.Checked.TheVariants.{Accepted, Refused}
-use Rattle.codes.specs.Order.{and_then}
+use Rattle.codes.specs.Order.{Checked, and_then}
 use Rattle.codes.specs.Limits.{max_detectors, max_observables, max_shots}
 use Rattle.packed.specs.Packed.{row_at}
 use Rattle.steps.specs.Graph.{Graph}
@@ -16,13 +15,13 @@ use Rattle.batch_rows.specs.Row.{put_row, shot_at, row_for}
 module _ (g : Graph) (rows : List ℕ) where
   -- 11 with shot and detector, where shot s is Stuck
   abbrev pub stuck_at : ℕ → Decoded → Checked
-  stuck_at s (impossible n d) = Refused (Stuck s d)
-  stuck_at s (corrected n list) = Accepted
+  stuck_at s (impossible n d) = Err (Stuck s d)
+  stuck_at s (corrected n list) = (Ok tt)
 
   -- the first Stuck shot decides
   unfoldable pub check_shots_of : List ℕ → Checked
   unfolding decode
-  check_shots_of [] = Accepted
+  check_shots_of [] = (Ok tt)
   check_shots_of (s ∷ ss) = and_then (stuck_at s (shot_at g rows s)) (check_shots_of ss)
 
   -- "earlier rows done, this row zero, later untouched"

@@ -15,6 +15,8 @@ ghost use Rattle.batch_rows.specs.Ready.{Ready};
 ghost use Rattle.batch_rows.specs.Row.{put_row, shot_at, row_for, GivenRow};
 ghost use Rattle.batch_rows.specs.Rows.{check_shots_of, rows_of, GivenRows};
 
+use adjacency::Neighbor;
+use cells::{Flags, Link, Node, Stack};
 use codes::{Checked, Refusal};
 use shot::Shot;
 
@@ -27,14 +29,14 @@ fn decode_row(
     edge_weight: &[f64],
     edge_obs: &[u64],
     adj_offsets: &[u32],
-    adj: &[[u32; 2]],
+    adj: &[Neighbor],
     shot: &[u64],
     row: &mut [u64],
     list: &mut [u32],
-    tree: &mut [[u32; 2]],
-    flags: &mut [[bool; 8]],
-    stacks: &mut [[u32; 6]],
-    links: &mut [[u32; 4]],
+    tree: &mut [Node],
+    flags: &mut [Flags],
+    stacks: &mut [Stack],
+    links: &mut [Link],
     growth: &mut [f64],
     sat: &mut [bool],
 ) -> Shot
@@ -46,9 +48,8 @@ fn decode_row(
     ensures rows { row.new ≡ row_left (graph_in detectors observables edge_u.now edge_v.now edge_weight.now edge_obs.now) (zeros (graph_in detectors observables edge_u.now edge_v.now edge_weight.now edge_obs.now)) (decode_in detectors observables edge_u.now edge_v.now edge_weight.now edge_obs.now shot.now) }
     ensures rests { Ready detectors (length edge_u.now) tree.new flags.new stacks.new links.new growth.new sat.new }
 {
-    tables::fill_u64(row, 0);
-    let blank = shot::is_blank(shot);
-    if blank {
+    row.fill(0);
+    if shot::is_blank(shot) {
         return Shot::Decoded {
             rounds: 0,
             length: 0,
@@ -76,6 +77,7 @@ fn decode_row(
 }
 
 // The shot in its part of the rows. Its row is a part of the output, lent on to the decoder of a shot. Long for its parameters, one a line.
+#[tactic(auto, using(crate::proofs::Parts::parts))]
 fn decode_at(
     detectors: usize,
     observables: usize,
@@ -84,15 +86,15 @@ fn decode_at(
     edge_weight: &[f64],
     edge_obs: &[u64],
     adj_offsets: &[u32],
-    adj: &[[u32; 2]],
+    adj: &[Neighbor],
     rows: &[u64],
     shot: usize,
     out: &mut [u64],
     list: &mut [u32],
-    tree: &mut [[u32; 2]],
-    flags: &mut [[bool; 8]],
-    stacks: &mut [[u32; 6]],
-    links: &mut [[u32; 4]],
+    tree: &mut [Node],
+    flags: &mut [Flags],
+    stacks: &mut [Stack],
+    links: &mut [Link],
     growth: &mut [f64],
     sat: &mut [bool],
 ) -> Shot
@@ -139,15 +141,15 @@ fn decode_rows(
     edge_weight: &[f64],
     edge_obs: &[u64],
     adj_offsets: &[u32],
-    adj: &[[u32; 2]],
+    adj: &[Neighbor],
     rows: &[u64],
     shots: usize,
     out: &mut [u64],
     list: &mut [u32],
-    tree: &mut [[u32; 2]],
-    flags: &mut [[bool; 8]],
-    stacks: &mut [[u32; 6]],
-    links: &mut [[u32; 4]],
+    tree: &mut [Node],
+    flags: &mut [Flags],
+    stacks: &mut [Stack],
+    links: &mut [Link],
     growth: &mut [f64],
     sat: &mut [bool],
 ) -> Checked
@@ -157,10 +159,7 @@ fn decode_rows(
     ensures answers { result ≡ check_shots_of (graph_in detectors observables edge_u.now edge_v.now edge_weight.now edge_obs.now) rows.now (below shots) }
     ensures rows { out.new ≡ rows_of (graph_in detectors observables edge_u.now edge_v.now edge_weight.now edge_obs.now) rows.now (below shots) out.old }
 {
-    let mut next = 0;
-    while next < shots {
-        let shot = next;
-        next += 1;
+    for shot in 0..shots {
         let found = decode_at(
             detectors,
             observables,
@@ -181,18 +180,15 @@ fn decode_rows(
             growth,
             sat,
         );
-        if let Shot::Stuck {
-            rounds: _,
-            detector,
-        } = found
-        {
-            return Checked::Refused(Refusal::Stuck { shot, detector });
+        if let Shot::Stuck { detector, .. } = found {
+            return Err(Refusal::Stuck { shot, detector });
         }
     }
-    Checked::Accepted
+    Ok(())
 }
 
 // The tables put to rest, whatever they held, and the shots decoded. Of slices that may be longer than the counts need the first entries are lent. Long for its parameters, one a line.
+#[tactic(auto, using(shot::proofs::Longer::small_of))]
 pub fn reset_and_decode_rows(
     detectors: usize,
     observables: usize,
@@ -202,15 +198,15 @@ pub fn reset_and_decode_rows(
     edge_weight: &[f64],
     edge_obs: &[u64],
     adj_offsets: &[u32],
-    adj: &[[u32; 2]],
+    adj: &[Neighbor],
     rows: &[u64],
     shots: usize,
     out: &mut [u64],
     list: &mut [u32],
-    tree: &mut [[u32; 2]],
-    flags: &mut [[bool; 8]],
-    stacks: &mut [[u32; 6]],
-    links: &mut [[u32; 4]],
+    tree: &mut [Node],
+    flags: &mut [Flags],
+    stacks: &mut [Stack],
+    links: &mut [Link],
     growth: &mut [f64],
     sat: &mut [bool],
 ) -> Checked
@@ -222,8 +218,6 @@ pub fn reset_and_decode_rows(
     ensures rows { out.new ≡ rows_of (graph_of detectors observables edges edge_u.now edge_v.now edge_weight.now edge_obs.now) rows.now (below shots) out.old }
 {
     rest::reset(detectors, edges, tree, flags, growth, sat);
-    columns::stack_rows(stacks);
-    columns::link_rows(links);
     let offsets = detectors + 1;
     decode_rows(
         detectors,

@@ -1,7 +1,8 @@
 -- The proved cases, each about every function that keeps the contract of its call: what it answers and every word that it leaves.
-use Rattle.std.specs.Prelude.{ℕ, ◌≡◌, List, [], ◌∷◌, true, false, pos, Float}
+use Rattle.std.specs.Prelude.{ℕ, ◌≡◌, List, [], ◌∷◌, true, false, pos, Float, Result, Ok, Err}
 use Rattle.std.specs.Float.Ieee as Ieee
 use Rattle.std.specs.Float.{binary64, fin}
+use Rattle.codes.specs.declared.Refusal.{Refusal}
 use Rattle.codes.specs.declared.Refusal.TheVariants as refusal
 use Rattle.steps.specs.Graph.{boundary}
 use Rattle.steps.specs.Growth.{count, start}
@@ -11,14 +12,10 @@ use Rattle.dem.specs.Positions.{tables}
 use Rattle.dem.specs.Cases.{three_eighths}
 use Rattle.split_model.specs.declared.Counts.{Counts}
 use Rattle.decompose.specs.declared.Scratch.{Scratch}
-use Rattle.decompose.specs.declared.Decomposed.{Decomposed}
-use Rattle.decompose.specs.declared.Decomposed.TheVariants as decomposed
 use Rattle.decompose.specs.Call.{outcome as decomposition, Decomposes}
 use Rattle.edges.specs.Cases.{quarter, eighth}
 use Rattle.edges.specs.Tables.{Slices, slices}
 use Rattle.graph.specs.Outcome.{outcome, Compiles}
-use Rattle.graph.specs.declared.Compiled.{Compiled}
-use Rattle.graph.specs.declared.Compiled.TheVariants as compiled
 use Rattle.scratch.specs.Scratch.{lengths_for}
 use Rattle.lent_graph.specs.Call.{Lent, lent_of}
 use Rattle.marking.specs.declared.Marking.{Marking}
@@ -82,24 +79,24 @@ pub record Decoder : Type 0 where
 -- ---- the marker
 
 -- whatever keeps the marker's contract on this graph, shot and list answers m and leaves this row, where 5 and 9 stood
-abbrev pub MarkedOn : Lent → ℕ → List ℕ → Marking → List ℕ → Type 0
-MarkedOn l word list m row = (m' : Marking) (row' : List ℕ) → Marks l (word ∷ []) 2 list (5 ∷ 9 ∷ []) (3 ∷ []) (3 ∷ []) m' row' → (m' ≡ m) × (row' ≡ row)
+abbrev pub MarkedOn : Lent → ℕ → List ℕ → Result Marking Refusal → List ℕ → Type 0
+MarkedOn l word list m row = (m' : Result Marking Refusal) (row' : List ℕ) → Marks l (word ∷ []) 2 list (5 ∷ 9 ∷ []) (3 ∷ []) (3 ∷ []) m' row' → (m' ≡ m) × (row' ≡ row)
 
 -- the same on the example's model and D1's shot
-abbrev pub Marked : List ℕ → Marking → List ℕ → Type 0
+abbrev pub Marked : List ℕ → Result Marking Refusal → List ℕ → Type 0
 Marked list m row = MarkedOn both_edges 2 list m row
 
 pub record Marker : Type 0 where
   -- the decoder's list passes, with its row
-  pub whole : Marked (1 ∷ 0 ∷ []) marking.Pass (1 ∷ 9 ∷ [])
+  pub whole : Marked (1 ∷ 0 ∷ []) (Ok marking.Pass) (1 ∷ 9 ∷ [])
   -- a part of it and no list leave detectors wrong
-  pub part : Marked (1 ∷ []) (marking.Differs 0) (5 ∷ 9 ∷ [])
-  pub none : Marked [] (marking.Differs 1) (5 ∷ 9 ∷ [])
+  pub part : Marked (1 ∷ []) (Ok (marking.Differs 0)) (5 ∷ 9 ∷ [])
+  pub none : Marked [] (Ok (marking.Differs 1)) (5 ∷ 9 ∷ [])
   -- 13: an unknown and a repeated edge
-  pub unknown : Marked (1 ∷ 0 ∷ 2 ∷ []) (marking.Refused refusal.Edge) (5 ∷ 9 ∷ [])
-  pub repeated : Marked (1 ∷ 0 ∷ 0 ∷ 0 ∷ []) (marking.Refused refusal.Edge) (5 ∷ 9 ∷ [])
+  pub unknown : Marked (1 ∷ 0 ∷ 2 ∷ []) (Err refusal.Edge) (5 ∷ 9 ∷ [])
+  pub repeated : Marked (1 ∷ 0 ∷ 0 ∷ 0 ∷ []) (Err refusal.Edge) (5 ∷ 9 ∷ [])
   -- "With the pair edge alone: .. both pass": the decoder's list, with its row
-  pub pair_d01 : MarkedOn pair_only 3 (0 ∷ []) marking.Pass (0 ∷ 9 ∷ [])
+  pub pair_d01 : MarkedOn pair_only 3 (0 ∷ []) (Ok marking.Pass) (0 ∷ 9 ∷ [])
 
 -- ---- compiling
 
@@ -114,8 +111,8 @@ before = slices (7 ∷ 8 ∷ []) (7 ∷ 8 ∷ []) (one ∷ one ∷ []) (7 ∷ 8 
 -- whatever keeps the contract of compiling answers n edges and leaves these tables
 abbrev pub CompilesTo : Tables → ℕ → List ℕ → List ℕ → List Float → List ℕ → Type 0
 CompilesTo t n u v weight obs =
-    (r : Compiled) (exit : Slices) → Compiles 2 1 (outcome 2 1 2 t before (3 ∷ 3 ∷ []) (3 ∷ 3 ∷ [])) r before exit
-    → (r ≡ compiled.Edges n) × (exit.edge_u ≡ u) × (exit.edge_v ≡ v) × (exit.edge_weight ≡ weight) × (exit.edge_obs ≡ obs)
+    (r : Result ℕ Refusal) (exit : Slices) → Compiles 2 1 (outcome 2 1 2 t before (3 ∷ 3 ∷ []) (3 ∷ 3 ∷ [])) r before exit
+    → (r ≡ Ok n) × (exit.edge_u ≡ u) × (exit.edge_v ≡ v) × (exit.edge_weight ≡ weight) × (exit.edge_obs ≡ obs)
 
 pub record Compiling : Type 0 where
   -- the example's model
@@ -142,12 +139,12 @@ abbrev pub scratch : Scratch
 scratch = record { starts = 34; before = 34; last_of = 3; first_of = 3; next_of = 2; numbers = 2; masks = 2; words0 = 2; words1 = 2; earlier = 2 }
 
 -- whatever keeps the contract of decomposing that model answers r and leaves these tables
-abbrev pub DecomposesTo : Decomposed → Tables → Type 0
-DecomposesTo r left = (r' : Decomposed) (left' : Tables) → Decomposes (decomposition 3 0 2 suggested lent scratch) r' lent left' → (r' ≡ r) × (left' ≡ left)
+abbrev pub DecomposesTo : Result Counts Refusal → Tables → Type 0
+DecomposesTo r left = (r' : Result Counts Refusal) (left' : Tables) → Decomposes (decomposition 3 0 2 suggested lent scratch) r' lent left' → (r' ≡ r) × (left' ≡ left)
 
 pub record Decomposing : Type 0 where
   -- "0.25 added to 0.25 is 0.375": of D0, and 0.25 of a new mechanism of D1 and D2; every word past the two is as it was
-  pub added : DecomposesTo (decomposed.Into (record { mechanisms = 2; components = 0; entries = 3 }))
+  pub added : DecomposesTo (Ok (record { mechanisms = 2; components = 0; entries = 3 }))
       (tables (three_eighths ∷ quarter ∷ one ∷ []) (1 ∷ 2 ∷ 9 ∷ []) (0 ∷ 0 ∷ 9 ∷ []) (0 ∷ 0 ∷ 9 ∷ []) (7 ∷ 8 ∷ []) (7 ∷ 8 ∷ []) (0 ∷ 1 ∷ 2 ∷ 10 ∷ 11 ∷ 12 ∷ 13 ∷ 14 ∷ []))
 
 -- ---- the table

@@ -1,8 +1,8 @@
 -- The number and the values that the marking sheet (docs/RULES.md, "Refusals") has for each refusal.
 use Rattle.std.specs.Prelude.{ℕ, List, [], ◌∷◌, get_or}
 use Rattle.codes.specs.declared.Refusal.{Refusal}
-use Rattle.codes.specs.declared.Checked.{Checked}
-use Rattle.codes.specs.declared.Checked.TheVariants as checked
+use Rattle.std.specs.Prelude.{Ok, Err}
+use Rattle.codes.specs.Order.{Checked}
 use Rattle.codes.specs.declared.Refusal.TheVariants.{Limit, Short, Frame, Probability, Index, NoCover, NotGraphlike, Length, Padding, Width, Stuck, Shape, Edge}
 
 -- "Returned": the number
@@ -61,5 +61,5 @@ success_row values = record { code = 0; values = values }
 
 -- what a check comes to
 abbrev pub checked_row : Checked → Sheet
-checked_row checked.Accepted = success_row []
-checked_row (checked.Refused r) = refusal_row r
+checked_row (Ok _) = success_row []
+checked_row (Err r) = refusal_row r

@@ -1,8 +1,7 @@
 -- The limits of docs/RULES.md, "Limits", and code 1.
 use Rattle.std.specs.Prelude.{ℕ, ltb}
 use Rattle.codes.specs.declared.Refusal.TheVariants.{Limit}
-use Rattle.codes.specs.declared.Checked.{Checked}
-use Rattle.codes.specs.Order.{refuse_if, and_then}
+use Rattle.codes.specs.Order.{Checked, refuse_if, and_then}
 
 abbrev pub max_detectors : ℕ
 max_detectors = 4096

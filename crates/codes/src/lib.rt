@@ -4,10 +4,10 @@
 
 ghost use Rattle.std.specs.Prelude.{◌≡◌};
 ghost use Rattle.codes.specs.Codes.{code_of, first_of, second_of};
-ghost use Rattle.codes.specs.Limits.{check_counts, check_shots};
+ghost use Rattle.codes.specs.Limits.{over, check_counts, check_shots};
 
 // A case for each code, with the values that its row names.
-#[derive(Clone, Copy)]
+#[derive(Clone, Copy, Debug, PartialEq, Eq)]
 pub enum Refusal {
     // 1: a count over its limit, or a decomposed model that finds no place
     Limit,
@@ -38,11 +38,7 @@ pub enum Refusal {
 }
 
 // What a check comes to.
-#[derive(Clone, Copy)]
-pub enum Checked {
-    Accepted,
-    Refused(Refusal),
-}
+pub type Checked = Result<(), Refusal>;
 
 pub const MAX_DETECTORS: usize = 4096;
 
@@ -54,94 +50,76 @@ pub const MAX_ENTRIES: usize = 16;
 
 pub const MAX_SHOTS: usize = 16777216;
 
-// The number that the marking sheet has for the case.
-pub fn code(r: Refusal) -> u8
-    ensures { result ≡ code_of r }
-{
-    match r {
-        Refusal::Limit => 1,
-        Refusal::Short => 2,
-        Refusal::Frame => 3,
-        Refusal::Probability { at: _ } => 4,
-        Refusal::Index { at: _ } => 5,
-        Refusal::NoCover { mechanism: _ } => 6,
-        Refusal::NotGraphlike { mechanism: _ } => 7,
-        Refusal::Length => 8,
-        Refusal::Padding { shot: _ } => 9,
-        Refusal::Width => 10,
-        Refusal::Stuck {
-            shot: _,
-            detector: _,
-        } => 11,
-        Refusal::Shape => 12,
-        Refusal::Edge => 13,
+impl Refusal {
+    // The number that the marking sheet has for the case.
+    pub fn code(self) -> u8
+        ensures { result ≡ code_of self }
+    {
+        match self {
+            Refusal::Limit => 1,
+            Refusal::Short => 2,
+            Refusal::Frame => 3,
+            Refusal::Probability { .. } => 4,
+            Refusal::Index { .. } => 5,
+            Refusal::NoCover { .. } => 6,
+            Refusal::NotGraphlike { .. } => 7,
+            Refusal::Length => 8,
+            Refusal::Padding { .. } => 9,
+            Refusal::Width => 10,
+            Refusal::Stuck { .. } => 11,
+            Refusal::Shape => 12,
+            Refusal::Edge => 13,
+        }
+    }
+
+    // The mechanism, edge or shot of the case, and 0 where its row names none.
+    pub fn first_value(self) -> usize
+        ensures { result ≡ first_of self }
+    {
+        match self {
+            Refusal::Probability { at } | Refusal::Index { at } => at,
+            Refusal::NoCover { mechanism } | Refusal::NotGraphlike { mechanism } => mechanism,
+            Refusal::Padding { shot } | Refusal::Stuck { shot, .. } => shot,
+            _ => 0,
+        }
+    }
+
+    // The detector of the case, and 0 where its row names none.
+    pub fn second_value(self) -> u32
+        ensures { result ≡ second_of self }
+    {
+        match self {
+            Refusal::Stuck { detector, .. } => detector,
+            _ => 0,
+        }
     }
 }
 
-// The mechanism, edge or shot of the case, and 0 where its row names none.
-pub fn first_value(r: Refusal) -> usize
-    ensures { result ≡ first_of r }
+// 1, where there are more than the limit.
+fn over(limit: usize, n: usize) -> Checked
+    ensures { result ≡ over limit n }
 {
-    match r {
-        Refusal::Probability { at } => at,
-        Refusal::Index { at } => at,
-        Refusal::NoCover { mechanism } => mechanism,
-        Refusal::NotGraphlike { mechanism } => mechanism,
-        Refusal::Padding { shot } => shot,
-        Refusal::Stuck { shot, detector: _ } => shot,
-        Refusal::Limit => 0,
-        Refusal::Short => 0,
-        Refusal::Frame => 0,
-        Refusal::Length => 0,
-        Refusal::Width => 0,
-        Refusal::Shape => 0,
-        Refusal::Edge => 0,
-    }
-}
-
-// The detector of the case, and 0 where its row names none.
-pub fn second_value(r: Refusal) -> u32
-    ensures { result ≡ second_of r }
-{
-    match r {
-        Refusal::Stuck { shot: _, detector } => detector,
-        Refusal::Limit => 0,
-        Refusal::Short => 0,
-        Refusal::Frame => 0,
-        Refusal::Probability { at: _ } => 0,
-        Refusal::Index { at: _ } => 0,
-        Refusal::NoCover { mechanism: _ } => 0,
-        Refusal::NotGraphlike { mechanism: _ } => 0,
-        Refusal::Length => 0,
-        Refusal::Padding { shot: _ } => 0,
-        Refusal::Width => 0,
-        Refusal::Shape => 0,
-        Refusal::Edge => 0,
+    if limit < n {
+        Err(Refusal::Limit)
+    } else {
+        Ok(())
     }
 }
 
 // The limits of a model or of a lent graph: items are its mechanisms or its edges.
+#[tactic(auto, unfolding(crate::specs::Limits::check_counts))]
 pub fn check_counts(detectors: usize, observables: usize, items: usize) -> Checked
     ensures { result ≡ check_counts detectors observables items }
 {
-    if MAX_DETECTORS < detectors {
-        return Checked::Refused(Refusal::Limit);
-    }
-    if MAX_OBSERVABLES < observables {
-        return Checked::Refused(Refusal::Limit);
-    }
-    if MAX_MECHANISMS < items {
-        return Checked::Refused(Refusal::Limit);
-    }
-    Checked::Accepted
+    over(MAX_DETECTORS, detectors)?;
+    over(MAX_OBSERVABLES, observables)?;
+    over(MAX_MECHANISMS, items)
 }
 
 // The limit of a batch.
+#[tactic(auto, unfolding(crate::specs::Limits::check_shots))]
 pub fn check_shots(shots: usize) -> Checked
     ensures { result ≡ check_shots shots }
 {
-    if MAX_SHOTS < shots {
-        return Checked::Refused(Refusal::Limit);
-    }
-    Checked::Accepted
+    over(MAX_SHOTS, shots)
 }

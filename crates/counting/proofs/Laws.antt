@@ -1,5 +1,6 @@
 -- The turns of the passes. Assumes nothing.
-use Prim.Native.Nat.{ℕ, ◌+◌, ◌<◌, ◌≤◌}
+use Prim.Native.Nat.{ℕ, ◌+◌, ◌-◌, ◌<◌, ◌≤◌}
+use native.Mathlib.Nat.{add-zero, add_assoc}
 use native.Mathlib.Numerals.{add-one}
 use native.Mathlib.Omega.{arith}
 use mathlib.Core.Path.{◌≡◌, refl, sym, ap, ◌∙◌}
@@ -7,11 +8,17 @@ use mathlib.Core.List.{List, [], ◌∷◌, ◌++◌, map, append-nil, append_as
 use mathlib.Core.Bool.{Bool, true, false, cond, not, ◌&&◌, ◌||◌, or-false, or_assoc, and-false}
 use mathlib.Core.Logic.{◌⊎◌, inl, inr, ⊎_elim}
 use lib.Dec.{eqb, ltb}
-use lib.ListN.{length, get_or, set, take, length-set, length-append}
-use lib.Seq.{take-set-le}
+use lib.ListN.{length, get_or, set, take, drop, length-set, length-append, length-drop, get_or-map}
+use lib.Seq.{take-set-le, get_or-take, get_or-drop, length-take-le, slice}
 use mir.Val.{bool_byte}
+use Rattle.columns.proofs.Columns.{map_set, column_length, keep_more, keep_then}
+use Rattle.cells.specs.declared.Link.{Link}
+use Rattle.cells.specs.Tables.{touched, cnt, SameLinks}
+use Rattle.cells.proofs.Stores.{kept_touched, kept_count}
 use Rattle.adjacency.specs.Adjacent.{star, beyond}
-use Rattle.adjacency.proofs.Stars.{adj_inside, adj_ends}
+use Rattle.adjacency.specs.declared.Neighbor.{Neighbor}
+use Rattle.adjacency.specs.Pairs.{near, away, neighbor_column}
+use Rattle.adjacency.proofs.Stars.{adj_inside, adj_ends, adj_rising}
 use Rattle.steps.specs.Graph.{boundary}
 use Rattle.steps.specs.Growth.{one}
 use Rattle.counting.specs.Counting.{is_free, far_live, takes, taken_at, counts_at, Tabled, CountedAt, taken_in, counts_in, Counted}
@@ -20,7 +27,7 @@ use Rattle.lists.specs.Lists.{filter, any}
 use Rattle.lists.proofs.Truth.{case-of, eqb_comm, or_intro}
 use Rattle.lists.proofs.Ranges.{filter_append}
 use Rattle.lists.proofs.Slices.{slice_map}
-use Rattle.growth_state.proofs.Laws.{filter_one, filter_none, take_next, put_next, set_bool, byte_one, listed}
+use Rattle.growth_state.proofs.Laws.{filter_one, filter_none, take_next, put_next, slice_next, set_bool, byte_one, listed}
 
 -- ---- front
 
@@ -35,6 +42,10 @@ module _ (seen : List ℕ) (i : ℕ) (hi : i < length seen) (w : ℕ → Bool) (
   front_cold t =
       take-set-le m front m (get_or seen i 0) (omega arith) ∙ inv
       ∙ sym (rw (take_next seen i 0 hi, filter_append w (take i seen) (get_or seen i 0 ∷ []), filter_none w (get_or seen i 0) t) (append-nil (filter w (take i seen))))
+
+  pub front_turn : m < length front → (b : Bool) → b ≡ w (get_or seen i 0) → take (m + bool_byte b) (set front m (get_or seen i 0)) ≡ filter w (take (i + 1) seen)
+  front_turn hm true q = front_hot hm (sym q)
+  front_turn hm false q = rw add-zero (front_cold (sym q))
 
 -- ---- counting at a detector
 
@@ -133,6 +144,75 @@ module _ {d : ℕ} {us vs off adj far parent : List ℕ} {sat hot free : List Bo
   near_in near = rw near (case-of (eqb (get_or far k 0) d)
       (λ q. rw q hx)
       (λ q. rw q (⊎_elim (λ h. h) (λ r. absurd (eqb-false (get_or far k 0) d q r)) far_in)))
+
+-- the rows of the edges at x, of which a loop is at the i-th
+module _ {d : ℕ} {us vs off : List ℕ} (adj : List Neighbor) {parent : List ℕ} {sat hot free : List Bool} (t : Tabled d us vs off (near adj) (away adj) parent sat hot free) {x : ℕ} (hx : x < d) where
+  abbrev first : ℕ
+  first = get_or off x 0
+
+  abbrev last : ℕ
+  last = get_or off (x + 1) 0
+
+  abbrev rows : List Neighbor
+  rows = take (last - first) (drop first adj)
+
+  abbrev empty : Neighbor
+  empty = record { edge = 0; other = 0 }
+
+  many : length rows ≡ last - first
+  many = length-take-le (last - first) (drop first adj) (omega (arith, length-drop first adj, adj_ends t.adjacent x hx, column_length neighbor_column 0 adj))
+
+  pub past_last : {i : ℕ} → i ≤ length rows → length rows ≤ i → first + i ≡ last
+  past_last k l = omega (arith, many, adj_rising t.adjacent x hx)
+
+  module _ {i : ℕ} (h : i < length rows) where
+    abbrev row : Neighbor
+    row = get_or rows i empty
+
+    inside : first + i < last
+    inside = omega (arith, many)
+
+    row_is : row ≡ get_or adj (first + i) empty
+    row_is = get_or-take (last - first) (drop first adj) i empty (omega (arith, many)) ∙ get_or-drop first adj i empty
+
+    edge_is : get_or (near adj) (first + i) 0 ≡ row.edge
+    edge_is = get_or-map (λ r. r.edge) adj (first + i) empty ∙ ap (λ (r : Neighbor). r.edge) (sym row_is)
+
+    other_is : get_or (away adj) (first + i) 0 ≡ row.other
+    other_is = get_or-map (λ r. r.other) adj (first + i) empty ∙ ap (λ (r : Neighbor). r.other) (sym row_is)
+
+    pub edge_next : slice (first + i) last (near adj) ≡ row.edge ∷ slice (first + (i + 1)) last (near adj)
+    edge_next = rw (← edge_is, ← add_assoc first i 1) (slice_next (first + i) last (near adj) inside (adj_ends t.adjacent x hx))
+
+    pub edge_below : row.edge < length us
+    edge_below = rw edge_is at (edge_in t hx (omega arith) inside)
+
+    pub other_far : row.other ≡ beyond us vs d x row.edge
+    other_far = rw (edge_is, other_is) at (far_is t hx (omega arith) inside)
+
+    pub other_near : {q : ℕ} → q ≡ cond (eqb row.other d) x row.other → q < d
+    other_near n = near_in t hx (omega arith) inside (rw other_is n)
+
+-- ---- the edge e and its count v stored at a place
+
+module _ (links : List Link) (at e v : ℕ) where
+  abbrev blank : Link
+  blank = record { touched = 0; count = 0; fresh = 0; unused = 0 }
+
+  abbrev half : List Link
+  half = set links at (record (get_or links at blank) { touched = e })
+
+  abbrev stored : List Link
+  stored = set half at (record (get_or half at blank) { count = v })
+
+  pub stored_edge : touched stored ≡ set (touched links) at e
+  stored_edge = (kept_count half at v blank).rest 0 refl ∙ map_set (λ r. r.touched) links at (record (get_or links at blank) { touched = e })
+
+  pub stored_count : cnt stored ≡ set (cnt links) at v
+  stored_count = map_set (λ r. r.count) half at (record (get_or half at blank) { count = v }) ∙ ap (λ (l : List ℕ). set l at v) ((kept_touched links at e blank).rest 1 refl)
+
+  pub stored_rest : SameLinks (0 ∷ 1 ∷ []) links stored
+  stored_rest = keep_then (keep_more (0 ∷ 1 ∷ []) refl (kept_touched links at e blank)) (keep_more (0 ∷ 1 ∷ []) refl (kept_count half at v blank))
 
 -- ---- counting in the front
 

@@ -1,6 +1,5 @@
 -- What the passes ask and leave that list the live detectors, count their edges and look for a stuck cluster.
 use Rattle.std.specs.Prelude.{ℕ, ◌+◌, ◌<◌, ◌≤◌, ◌≡◌, List, [], ◌∷◌, ◌++◌, map, Bool, true, false, cond, not, ◌&&◌, ◌||◌, eqb, ltb, length, get_or, take, set}
-use Rattle.std.specs.Float.Ieee as Ieee
 use Rattle.lists.specs.Lists.{filter, any, member}
 use Rattle.steps.specs.Graph.{Ends}
 use Rattle.steps.specs.Growth.{one}

@@ -4,17 +4,17 @@ use native.Mathlib.Numerals.{add-one}
 use native.Mathlib.Omega.{arith}
 use mathlib.Core.Path.{◌≡◌, refl, sym, ap, ap₂, ◌∙◌, subst}
 use mathlib.Core.Logic.{◌⊎◌, inl, inr, ⊎_elim}
-use mathlib.Core.List.{List, [], ◌∷◌, map}
+use mathlib.Core.List.{List, ◌∷◌, map}
 use mathlib.Core.Bool.{Bool, true, false}
 use lib.Dec.{eqb}
-use lib.ListN.{length, get_or, take, drop, set, length-set}
+use lib.ListN.{length, get_or, take, drop, set, replicate, length-set, length-replicate, get_or-replicate}
 use lib.Seq.{drop-cons, get_or-set_same, get_or-set_other}
 use borrow.Author.Tests.{eqb-true, eqb-false}
 use Rattle.lists.specs.Lists.{from, below, filter, member}
 use Rattle.lists.proofs.Truth.{case-of, clash}
 use Rattle.dem.specs.Model.{Symptom, list_fits}
 use Rattle.cover.proofs.Steps.{fits_below, head_in}
-use Rattle.cover.specs.Kept.{symptom_at, kept_in, nowhere, lowest, starts_with, lowest_from, Chains}
+use Rattle.cover.specs.Kept.{detectors_at, symptom_at, kept_in, nowhere, lowest, starts_with, lowest_from, Detectors, Chains}
 
 -- ---- the lowest that passes
 
@@ -106,11 +106,7 @@ starts_is es s zero d p h = absurd (omega arith)
 starts_is es s (suc c) d p h = rw (drop-cons es s 0 (omega arith))
 
 pub starts_none : (es : List ℕ) (s c d : ℕ) → c ≡ 0 → starts_with d (take c (drop s es)) ≡ false
-starts_none es s c d e = rw e (none (drop s es))
-  where
-    none : (l : List ℕ) → starts_with d (take 0 l) ≡ false
-    none [] = refl
-    none (x ∷ l) = refl
+starts_none es s c d e = rw e
 
 -- ---- one more mechanism in the chains, from the last down
 
@@ -156,6 +152,38 @@ first_below b es s c p h e = fits_below b (take c (drop s es)) e (get_or es s 0)
     first_in : (c : ℕ) → 0 < c → s + c ≤ length es → member (get_or es s 0) (take c (drop s es)) ≡ true
     first_in zero p h = absurd (omega arith)
     first_in (suc c) p h = rw (drop-cons es s 0 (omega arith)) (head_in (get_or es s 0) (take c (drop (suc s) es)))
+
+-- ---- the chains of the mechanisms of the tables
+
+-- the first detector of mechanism k
+pub head_below : (starts counts es : List ℕ) (n d k : ℕ) → Detectors starts counts es n d → k < n → 0 < get_or counts k 0 → get_or es (get_or starts k 0) 0 < d
+head_below starts counts es n d k t h p = first_below d es (get_or starts k 0) (get_or counts k 0) p (t.listed k h) (t.checked k h)
+
+-- no chains yet
+pub link_begin : (lists : ℕ → List ℕ) (n m : ℕ) (first next : List ℕ) → first ≡ replicate m nowhere → Linked lists n n first next
+link_begin lists n m first next e = record {
+  begins = λ d h. ap (λ (l : List ℕ). get_or l d 0) e ∙ get_or-replicate m d nowhere 0 (omega (arith, ap length e, length-replicate m nowhere)) ∙ sym (from_end (λ i. starts_with d (lists i)) n n (omega arith));
+  linked = λ i d a b. absurd (omega arith);
+}
+
+module _ (starts counts es : List ℕ) (n d k : ℕ) (t : Detectors starts counts es n d) (first next : List ℕ) (p : 0 < k) (h : k ≤ n) (l : Linked (detectors_at starts counts es) n k first next) where
+  pub link_past : get_or counts (k - 1) 0 ≤ 0 → Linked (detectors_at starts counts es) n (k - 1) first next
+  link_past z = link_none (detectors_at starts counts es) n k first next p h l (λ x. starts_none es (get_or starts (k - 1) 0) (get_or counts (k - 1) 0) x (omega arith))
+
+  pub link_head : d ≤ length first → n ≤ length next → 0 < get_or counts (k - 1) 0
+      → Linked (detectors_at starts counts es) n (k - 1) (set first (get_or es (get_or starts (k - 1) 0) 0) (k - 1)) (set next (k - 1) (get_or first (get_or es (get_or starts (k - 1) 0) 0) 0))
+  link_head f m z =
+      let i : k - 1 < n = omega arith in
+      link_one (detectors_at starts counts es) n k first next p h l (get_or es (get_or starts (k - 1) 0) 0)
+      (omega (arith, head_below starts counts es n d (k - 1) t i z)) (omega arith)
+      (λ x. starts_is es (get_or starts (k - 1) 0) (get_or counts (k - 1) 0) x z (t.listed (k - 1) i))
+
+-- all of them
+pub linked_all : (lists : ℕ → List ℕ) (n k : ℕ) (first next : List ℕ) → k ≤ 0 → Linked lists n k first next → Chains lists n first next
+linked_all lists n k first next h l =
+    let z : k ≡ 0 = omega arith in
+    let m = subst (λ (i : ℕ). Linked lists n i first next) z l in
+    record { begins = m.begins; linked = λ i d. m.linked i d (omega arith) }
 
 -- ---- tables that agree on the kept mechanisms
 

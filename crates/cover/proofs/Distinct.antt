@@ -1,10 +1,10 @@
 -- A candidate that equals an earlier one in mask and words is never in the first cover.
+use Rattle.std.specs.Prelude.{Option, None, Some}
 use Prim.Native.Nat.{ℕ}
 use native.Mathlib.Omega.{arith}
 use mathlib.Core.Path.{◌≡◌, refl, sym, ap, ap₂, ◌∙◌}
 use mathlib.Core.List.{List, [], ◌∷◌}
 use mathlib.Core.Bool.{Bool, true, false, not, ◌&&◌}
-use mathlib.Core.Option.{Option, none, some}
 use lib.Dec.{eqb}
 use lib.Bits.{bit_xor}
 use borrow.Author.Tests.{eqb-true}
@@ -14,9 +14,9 @@ use Rattle.dem.specs.Cover.{choose}
 use Rattle.cover.specs.Masks.{Candidate, fits, cover_of, alike, distinct}
 use Rattle.cover.proofs.Bitwise.{xor_turn, fits_more, fits_turn, fits_once}
 
-choose_none : (b : Bool) (at : ℕ) (x r : Option (List ℕ)) → choose b at x r ≡ none → (b ≡ true → x ≡ none) × (r ≡ none)
-choose_none true at (some cs) r e = absurd (let z : ◌≡◌ {A = ℕ} 0 1 = cc in omega arith)
-choose_none true at none r e = (λ t. refl, e)
+choose_none : (b : Bool) (at : ℕ) (x r : Option (List ℕ)) → choose b at x r ≡ None → (b ≡ true → x ≡ None) × (r ≡ None)
+choose_none true at (Some cs) r e = absurd (let z : ◌≡◌ {A = ℕ} 0 1 = cc in omega arith)
+choose_none true at None r e = (λ t. refl, e)
 choose_none false at x r e = (λ t. clash t refl, e)
 
 -- the state that c leaves
@@ -46,12 +46,12 @@ module _ (c : Candidate) where
       rw (t, u) (ap₂ (choose true d.number) (unfit ds (bit_xor m d.mask) (bit_xor o d.word0) (bit_xor p d.word1) g) (unfit ds m o p f)))
       (λ u. rw (t, u) (unfit ds m o p f)))
 
-  turned : (d : Candidate) (ds : List Candidate) (m o p : ℕ) → after d ds (bit_xor m c.mask) (bit_xor o c.word0) (bit_xor p c.word1) ≡ none
-      → after c ds (bit_xor m d.mask) (bit_xor o d.word0) (bit_xor p d.word1) ≡ none
+  turned : (d : Candidate) (ds : List Candidate) (m o p : ℕ) → after d ds (bit_xor m c.mask) (bit_xor o c.word0) (bit_xor p c.word1) ≡ None
+      → after c ds (bit_xor m d.mask) (bit_xor o d.word0) (bit_xor p d.word1) ≡ None
   turned d ds m o p e = rw (xor_turn m d.mask c.mask, xor_turn o d.word0 c.word0, xor_turn p d.word1 c.word1) e
 
   -- where c fits and fails, every one that equals it fails, here and deeper
-  failed : (ds : List Candidate) (m o p : ℕ) → fits m c.mask ≡ true → after c ds m o p ≡ none → cover_of ds m o p ≡ cover_of (others ds) m o p
+  failed : (ds : List Candidate) (m o p : ℕ) → fits m c.mask ≡ true → after c ds m o p ≡ None → cover_of ds m o p ≡ cover_of (others ds) m o p
   unfolding cover_of filter
   failed [] m o p f e = refl
   failed (d ∷ ds) m o p f e =
@@ -60,7 +60,7 @@ module _ (c : Candidate) where
       case-of (alike c d)
       (λ t. let (q, r, s) = alike_parts c d t in
       let u : fits m d.mask ≡ true = sym (ap (fits m) q) ∙ f in
-      let v : after d ds m o p ≡ none = let w = n.1 in cc in
+      let v : after d ds m o p ≡ None = let w = n.1 in cc in
       rw (t, u, v) without-it)
       (λ t. case-of (fits m d.mask)
       (λ u. rw (t, u) (ap₂ (choose true d.number) (case-of (fits (bit_xor m d.mask) c.mask)
@@ -77,8 +77,8 @@ module _ (c : Candidate) where
       (λ f. rw f (unfit cs m o p f))
     where
       go : fits m c.mask ≡ true → (x : Option (List ℕ)) → after c cs m o p ≡ x → choose true c.number x (cover_of cs m o p) ≡ choose true c.number x (cover_of (others cs) m o p)
-      go t (some ks) e = refl
-      go t none e = failed cs m o p t e
+      go t (Some ks) e = refl
+      go t None e = failed cs m o p t e
 
 pub all_distinct : (cs : List Candidate) (m o p : ℕ) → cover_of cs m o p ≡ cover_of (distinct cs) m o p
 unfolding cover_of distinct

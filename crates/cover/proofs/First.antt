@@ -1,4 +1,5 @@
 -- The definition of the first cover against the words of sets: sound, complete, first.
+use Rattle.std.specs.Prelude.{Option, None, Some}
 use Prim.Native.Nat.{ℕ, suc, ◌+◌, ◌<◌, ◌≤◌}
 use native.Mathlib.Nat.{eq-or-lt_of_le}
 use native.Mathlib.Omega.{arith}
@@ -6,7 +7,6 @@ use mathlib.Core.Path.{◌≡◌, refl, sym, ap, ap₂, ◌∙◌, subst}
 use mathlib.Core.Logic.{◌⊎◌, inl, inr, ⊎_elim}
 use mathlib.Core.List.{List, [], ◌∷◌}
 use mathlib.Core.Bool.{Bool, true, false, cond, not, ◌&&◌, ◌||◌, xor}
-use mathlib.Core.Option.{Option, none, some}
 use lib.Dec.{eqb}
 use lib.ListN.{length, get_or}
 use Rattle.lists.specs.Lists.{filter, any, odd, member}
@@ -169,13 +169,13 @@ module _ (kept : List Symptom) where
   here : (at : ℕ) (s : Symptom) (ss : List Symptom) → From at (s ∷ ss) → s ≡ get_or kept at none_such
   here at s ss h = h.1 0 ∙ ap (λ (j : ℕ). get_or kept j none_such) (omega arith)
 
-  closes_some : (p q : Bool) (cs : List ℕ) → closes (p && q) ≡ some cs → (cs ≡ []) × (p ≡ true) × (q ≡ true)
+  closes_some : (p q : Bool) (cs : List ℕ) → closes (p && q) ≡ Some cs → (cs ≡ []) × (p ≡ true) × (q ≡ true)
   closes_some true true cs e = (cc, refl, refl)
   closes_some true false cs e = absurd (let z : ◌≡◌ {A = ℕ} 0 1 = cc in omega arith)
   closes_some false q cs e = absurd (let z : ◌≡◌ {A = ℕ} 0 1 = cc in omega arith)
 
   -- what is found is a cover
-  sound : (ss : List Symptom) (at : ℕ) (left obs cs : List ℕ) → From at ss → cover_from ss at left obs ≡ some cs → Chosen at left obs cs
+  sound : (ss : List Symptom) (at : ℕ) (left obs cs : List ℕ) → From at ss → cover_from ss at left obs ≡ Some cs → Chosen at left obs cs
   unfolding cover_from
   sound [] at left obs cs f e =
       let h = closes_some (is_empty left) (is_empty obs) cs e in
@@ -186,31 +186,31 @@ module _ (kept : List Symptom) where
       (λ ds q. sound ss (suc at) left obs ds (next at s ss f) q) e
     where
       go : (b : Bool) → chosen_fits left s ≡ b → (x : Option (List ℕ))
-          → ((ds : List ℕ) → x ≡ some ds → Chosen (suc at) (without s.detectors left) (difference obs s.observables) ds)
-          → ((ds : List ℕ) → cover_from ss (suc at) left obs ≡ some ds → Chosen (suc at) left obs ds)
-          → choose b at x (cover_from ss (suc at) left obs) ≡ some cs
+          → ((ds : List ℕ) → x ≡ Some ds → Chosen (suc at) (without s.detectors left) (difference obs s.observables) ds)
+          → ((ds : List ℕ) → cover_from ss (suc at) left obs ≡ Some ds → Chosen (suc at) left obs ds)
+          → choose b at x (cover_from ss (suc at) left obs) ≡ Some cs
           → Chosen at left obs cs
-      go true t (some ds) with_it without-it e =
+      go true t (Some ds) with_it without-it e =
           let q : at ∷ ds ≡ cs = cc in
           let h : (r : Symptom) → s ≡ r → (chosen_fits left r ≡ true) × Chosen (suc at) (without r.detectors left) (difference obs r.observables) ds
           = λ r k. subst (λ (r : Symptom). (chosen_fits left r ≡ true) × Chosen (suc at) (without r.detectors left) (difference obs r.observables) ds) k (t, with_it ds refl) in
           let k = h (get_or kept at none_such) (here at s ss f) in
           subst (λ (l : List ℕ). Chosen at left obs l) q (omega arith, omega (arith, f.0), k.0, k.1)
-      go true t none with_it without-it e = later at left obs cs (without-it cs e)
+      go true t None with_it without-it e = later at left obs cs (without-it cs e)
       go false t x with_it without-it e = later at left obs cs (without-it cs e)
 
   -- where there is a cover, one is found, and it is that cover or comes before it
   abbrev Found_by : Option (List ℕ) → List ℕ → Type 0
-  Found_by x ds = (cs : List ℕ) × (x ≡ some cs) × Before cs ds
+  Found_by x ds = (cs : List ℕ) × (x ≡ Some cs) × Before cs ds
 
   -- a cover that begins past `at` is found without `at`, or one with `at` comes before it
   beyond : (b : Bool) (at : ℕ) (x y : Option (List ℕ)) (d : ℕ) (ds : List ℕ) → at < d → Found_by y (d ∷ ds) → Found_by (choose b at x y) (d ∷ ds)
-  beyond true at (some cs) y d ds h r = (at ∷ cs, refl, inl h)
-  beyond true at none y d ds h r = r
+  beyond true at (Some cs) y d ds h r = (at ∷ cs, refl, inl h)
+  beyond true at None y d ds h r = r
   beyond false at x y d ds h r = r
 
   -- where nothing is left, no mechanism fits
-  all_closed : (ss : List Symptom) (at : ℕ) (left obs : List ℕ) → is_empty left ≡ true → is_empty obs ≡ true → cover_from ss at left obs ≡ some []
+  all_closed : (ss : List Symptom) (at : ℕ) (left obs : List ℕ) → is_empty left ≡ true → is_empty obs ≡ true → cover_from ss at left obs ≡ Some []
   unfolding cover_from
   all_closed [] at left obs e f = rw (e, f)
   all_closed (s ∷ ss) at left obs e f = rw (fits_none left s (empty_none left e)) (all_closed ss (suc at) left obs e f)
@@ -234,7 +234,7 @@ module _ (kept : List Symptom) where
       go with_it without-it (inr l) =
           beyond (chosen_fits left s) at _ _ d ds l (without-it (l, h.1, h.2, h.3))
 
-  none_of : (ss : List Symptom) (at : ℕ) (left obs : List ℕ) → From at ss → cover_from ss at left obs ≡ none → (ds : List ℕ) → Chosen at left obs ds → ⊥
+  none_of : (ss : List Symptom) (at : ℕ) (left obs : List ℕ) → From at ss → cover_from ss at left obs ≡ None → (ds : List ℕ) → Chosen at left obs ds → ⊥
   none_of ss at left obs f e ds h = let r = first ss at left obs ds f h in let k = r.1 in let z : ◌≡◌ {A = ℕ} 0 1 = cc in omega arith
 
   whole : From 0 kept
@@ -250,8 +250,8 @@ module _ (kept : List Symptom) where
     from_cover cs p = from_parts 0 s.detectors s.observables cs (record { ascends = p.ascends; filled = p.filled; partitions = p.partitions; matches = p.matches })
 
     is_first_of : (x : Option (List ℕ)) → cover_from kept 0 s.detectors s.observables ≡ x → IsFirst kept s x
-    is_first_of none e = λ ds d. none_of kept 0 s.detectors s.observables whole e ds (from_cover ds d)
-    is_first_of (some cs) e = (to_cover cs (sound kept 0 s.detectors s.observables cs whole e), λ ds d. before ds d)
+    is_first_of None e = λ ds d. none_of kept 0 s.detectors s.observables whole e ds (from_cover ds d)
+    is_first_of (Some cs) e = (to_cover cs (sound kept 0 s.detectors s.observables cs whole e), λ ds d. before ds d)
       where
         before : (ds : List ℕ) → IsCover kept s ds → Before cs ds
         before ds d =
@@ -275,7 +275,7 @@ before_one (c ∷ cs) (d ∷ ds) (inr l) (inl m) = absurd (omega (arith, l.0))
 before_one (c ∷ cs) (d ∷ ds) (inr l) (inr m) = ap₂ ◌∷◌ l.0 (before_one cs ds l.1 m.1)
 
 pub one_first : (kept : List Symptom) (s : Symptom) (x y : Option (List ℕ)) → IsFirst kept s x → IsFirst kept s y → x ≡ y
-one_first kept s none none h k = refl
-one_first kept s none (some ds) h k = absurd (h ds k.0)
-one_first kept s (some cs) none h k = absurd (k cs h.0)
-one_first kept s (some cs) (some ds) h k = ap some (before_one cs ds (h.1 ds k.0) (k.1 cs h.0))
+one_first kept s None None h k = refl
+one_first kept s None (Some ds) h k = absurd (h ds k.0)
+one_first kept s (Some cs) None h k = absurd (k cs h.0)
+one_first kept s (Some cs) (Some ds) h k = ap Some (before_one cs ds (h.1 ds k.0) (k.1 cs h.0))

@@ -8,6 +8,7 @@ use lib.Dec.{eqb}
 use borrow.Author.Tests.{ne_eqb}
 use lib.ListN.{get_or}
 use Rattle.lists.specs.Lists.{from, filter}
+use Rattle.lists.proofs.Ranges.{filter_from}
 use Rattle.lists.proofs.Truth.{case-of}
 use Rattle.cover.specs.Masks.{Candidate, alike, distinct}
 use Rattle.cover.specs.Search.{previous, equal_at, candidate_at, candidates_at, fresh_at}
@@ -37,13 +38,6 @@ clear_previous p (suc k) =
     clear_last p k 0 ∙ ap (λ (i : ℕ). clear p k 0 && not (p i)) e
     ∙ case-of (p k) (λ t. rw (t, ne_eqb (suc k) 0 (λ z. omega arith)) (and-false (clear p k 0))) (λ f. rw f (and-true (clear p k 0) ∙ clear_previous p k))
 
-filter_cong : (p q : ℕ → Bool) (n a : ℕ) → ((i : ℕ) → i < n + a → p i ≡ q i) → filter p (from n a) ≡ filter q (from n a)
-unfolding filter from
-filter_cong p q zero a h = refl
-filter_cong p q (suc n) a h =
-    let r = filter_cong p q n (suc a) (λ i k. h i (omega arith)) in
-    case-of (q a) (λ t. rw (h a (omega arith), t) (ap {B = List ℕ} (λ l. a ∷ l) r)) (λ t. rw (h a (omega arith), t) r)
-
 module _ (f : ℕ → Candidate) where
   -- one more to be unlike
   step : (n b a : ℕ) → a < b → filter (λ d. not (alike (f a) d)) (map f (filter (λ i. clear (λ j. alike (f j) (f i)) (i - suc a) (suc a)) (from n b)))
@@ -69,7 +63,7 @@ pub fresh_distinct : (ns ms os ps es : List ℕ) (n : ℕ) → ((j : ℕ) → j 
 unfolding fresh_at candidates_at equal_at alike
 fresh_distinct ns ms os ps es n h =
     ap (map (candidate_at ns ms os ps))
-    (filter_cong (λ i. eqb (get_or es i 0) 0) (λ i. clear (λ j. alike (candidate_at ns ms os ps j) (candidate_at ns ms os ps i)) (i - 0) 0) n 0
-    (λ i k. let e : i - 0 ≡ i = omega arith in
+    (filter_from (λ i. eqb (get_or es i 0) 0) (λ i. clear (λ j. alike (candidate_at ns ms os ps j) (candidate_at ns ms os ps i)) (i - 0) 0) n 0
+    (λ i low k. let e : i - 0 ≡ i = omega arith in
     ap (λ (x : ℕ). eqb x 0) (h i (omega arith)) ∙ sym (clear_previous (λ j. equal_at ms os ps j i) i) ∙ ap (λ (x : ℕ). clear (λ j. equal_at ms os ps j i) x 0) (sym e)))
     ∙ sym (distinct_from (candidate_at ns ms os ps) n 0)

@@ -4,6 +4,7 @@ use Rattle.cover.specs.Laws.{Laws}
 use Rattle.cover.proofs.First.{is_first, one_first}
 use Rattle.cover.proofs.Distinct.{all_distinct}
 use Rattle.cover.proofs.Follow.{chain_list}
+use Rattle.cover.proofs.Turn.{previous_is}
 
 pub laws : Laws
 laws = record {
@@ -11,4 +12,5 @@ laws = record {
   only_first = λ kept s x h. one_first kept s x (first_cover kept s) h (is_first kept s);
   repeats = all_distinct;
   chain = chain_list;
+  held_past = previous_is;
 }

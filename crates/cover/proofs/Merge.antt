@@ -12,14 +12,14 @@ use lib.Seq.{get_or-set_same, get_or-set_other, take-suc-set}
 use borrow.Author.Tests.{eqb-true, eqb-false}
 use Rattle.lists.specs.Lists.{from, filter, member}
 use Rattle.lists.proofs.Truth.{case-of, clash, not_so, same_eqb}
-use Rattle.lists.proofs.Members.{map_snoc}
+use Rattle.lists.proofs.Members.{map_snoc, at_member}
 use Rattle.dem.specs.Cover.{is_empty, within}
 use Rattle.cover.proofs.First.{within_all, empty_none}
-use Rattle.cover.specs.Kept.{nowhere, starts_with, lowest_from, Chains}
+use Rattle.cover.specs.Kept.{detectors_at, nowhere, starts_with, lowest_from, Chains}
 use Rattle.cover.specs.Masks.{mask_of, mask_within, is_candidate, candidates_from, Rises}
-use Rattle.cover.specs.Search.{Least}
+use Rattle.cover.specs.Search.{Least, Merged, Gathered}
 use Rattle.cover.proofs.ByMasks.{mask_none, empty_mask}
-use Rattle.cover.proofs.Steps.{head_in, place_of_lem, member_at}
+use Rattle.cover.proofs.Steps.{head_in, place_of_lem, rises_at, fits_length, fits_rises, fits_at}
 use Rattle.cover.proofs.Chain.{from_miss, from_before, from_is, from_jump, filter_past, filter_hit, filter_miss}
 
 -- ---- the detectors of an ascending list are distinct
@@ -27,12 +27,7 @@ use Rattle.cover.proofs.Chain.{from_miss, from_before, from_is, from_jump, filte
 rises_lt : (low : ℕ) (l : List ℕ) (i j : ℕ) → Rises low l → i < j → j < length l → (low ≤ get_or l i 0) × (get_or l i 0 < get_or l j 0)
 rises_lt low [] i j r h k = absurd (omega arith)
 rises_lt low (x ∷ l) i zero r h k = absurd (omega arith)
-rises_lt low (x ∷ l) zero (suc j) r h k = (r.0, rises_from (suc x) l j r.1 (omega arith))
-  where
-    rises_from : (low : ℕ) (l : List ℕ) (j : ℕ) → Rises low l → j < length l → low ≤ get_or l j 0
-    rises_from low [] j r h = absurd (omega arith)
-    rises_from low (x ∷ l) zero r h = r.0
-    rises_from low (x ∷ l) (suc j) r h = let q = rises_from (suc x) l j r.1 (omega arith) in omega (arith, r.0)
+rises_lt low (x ∷ l) zero (suc j) r h k = (r.0, rises_at (suc x) l j r.1 (omega arith))
 rises_lt low (x ∷ l) (suc i) (suc j) r h k = let q = rises_lt (suc x) l i j r.1 (omega arith) (omega arith) in (omega (arith, q.0, r.0), q.1)
 
 rises_one : (l : List ℕ) (i j : ℕ) → Rises 0 l → i < length l → j < length l → get_or l i 0 ≡ get_or l j 0 → i ≡ j
@@ -70,10 +65,6 @@ module _ (ds : List ℕ) where
       (λ t. let k : mask_of ds l ≡ 0 = rw t at e in rw (t, empty_mask ds l (within_all ds l t), k))
       (λ t. case-of (is_empty l) (λ u. rw u) (λ u. rw (t, u)))
 
-take_none : (l : List ℕ) → take 0 l ≡ []
-take_none [] = refl
-take_none (x ∷ l) = refl
-
 -- ---- the merge at mechanism `at`, with `count` candidates so far
 
 module _ (lists : ℕ → List ℕ) (n : ℕ) (ds : List ℕ) where
@@ -88,18 +79,18 @@ module _ (lists : ℕ → List ℕ) (n : ℕ) (ds : List ℕ) where
     pub numbered : take count numbers ++ candidates_from ds lists (n - at) at ≡ candidates_from ds lists n 0
     pub masked : take count masks ≡ map (λ k. mask_of ds (lists k)) (take count numbers)
 
-  pub begun : (numbers masks heads : List ℕ) → Heads 0 heads → Merging 0 0 numbers masks heads
+  begun : (numbers masks heads : List ℕ) → Heads 0 heads → Merging 0 0 numbers masks heads
   begun numbers masks heads h =
       let e : n - 0 ≡ n = omega arith in
       record {
         low = omega arith;
         counted = omega arith;
         headed = h;
-        numbered = ap₂ (λ (x y : List ℕ). x ++ y) (take_none numbers) (ap (λ (x : ℕ). candidates_from ds lists x 0) e);
-        masked = take_none masks ∙ sym (ap (map (λ k. mask_of ds (lists k))) (take_none numbers));
+        numbered = ap (λ (x : ℕ). candidates_from ds lists x 0) e;
+        masked = refl;
       }
 
-  pub no_more : (at count : ℕ) (numbers masks heads : List ℕ) → Merging at count numbers masks heads → n ≤ at → take count numbers ≡ candidates_from ds lists n 0
+  no_more : (at count : ℕ) (numbers masks heads : List ℕ) → Merging at count numbers masks heads → n ≤ at → take count numbers ≡ candidates_from ds lists n 0
   unfolding candidates_from filter from
   no_more at count numbers masks heads g h =
       let e : n - at ≡ zero = omega arith in
@@ -113,14 +104,14 @@ module _ (lists : ℕ → List ℕ) (n : ℕ) (ds : List ℕ) where
         subst (λ (x : ℕ). starts_with x (lists j) ≡ false) e
         (from_before (λ k. starts_with (get_or ds i 0) (lists k)) n at j a b (omega (arith, hs i q, m.least i q)))
 
-    pub ended : get_or heads l 0 ≡ nowhere → candidates_from ds lists (n - at) at ≡ []
+    ended : get_or heads l 0 ≡ nowhere → candidates_from ds lists (n - at) at ≡ []
     unfolding candidates_from filter from
     ended e =
         let z : n - n ≡ zero = omega arith in
         filter_past (λ k. is_candidate ds (lists k)) n at n low (omega arith) (λ j a b. not_candidate ds (lists j) (between j a b (omega (arith, e)))) ∙ rw z
 
     module _ (f : get_or heads l 0 ≡ nowhere → ⊥) where
-      pub head_is : (at ≤ get_or heads l 0) × (get_or heads l 0 < n) × (starts_with (get_or ds l 0) (lists (get_or heads l 0)) ≡ true)
+      head_is : (at ≤ get_or heads l 0) × (get_or heads l 0 < n) × (starts_with (get_or ds l 0) (lists (get_or heads l 0)) ≡ true)
       head_is =
           let e = hs l m.within in
           let q = from_is (λ k. starts_with (get_or ds l 0) (lists k)) n at low (λ z. f (e ∙ z)) in
@@ -153,12 +144,12 @@ module _ (lists : ℕ → List ℕ) (n : ℕ) (ds : List ℕ) where
           (λ t. let g = eqb-false i l t in
           let other = not_so (starts_with (get_or ds i 0) (lists k)) (λ u. g (rises_one ds i l r q m.within (starts_one (lists k) (get_or ds i 0) (get_or ds l 0) u h.2))) in
           get_or-set_other heads l i (get_or next k 0) 0 g ∙ hs i q
-          ∙ from_jump (λ k. starts_with (get_or ds i 0) (lists k)) n at k h.0 (omega (arith, h.1)) (λ j a b. between j a (omega (arith, h.1)) b (get_or ds i 0) (member_at ds i q))
+          ∙ from_jump (λ k. starts_with (get_or ds i 0) (lists k)) n at k h.0 (omega (arith, h.1)) (λ j a b. between j a (omega (arith, h.1)) b (get_or ds i 0) (at_member ds i q))
           ∙ from_miss (λ k. starts_with (get_or ds i 0) (lists k)) n k h.1 other)
 
       module _ (first next : List ℕ) (c : Chains lists n first next) (w : length ds ≤ length heads) (count : ℕ) (numbers masks : List ℕ) (g : Merging at count numbers masks heads) where
         -- the lowest head is a candidate, or it is passed over
-        pub taken : (mask : ℕ) → count < length numbers → count < length masks → mask ≡ mask_within ds (lists (get_or heads l 0)) → (mask ≡ 0 → ⊥)
+        taken : (mask : ℕ) → count < length numbers → count < length masks → mask ≡ mask_within ds (lists (get_or heads l 0)) → (mask ≡ 0 → ⊥)
             → Merging (get_or heads l 0 + 1) (count + 1) (set numbers count (get_or heads l 0)) (set masks count mask) (set heads l (get_or next (get_or heads l 0) 0))
         taken mask a b e z =
             let k = get_or heads l 0 in
@@ -179,7 +170,7 @@ module _ (lists : ℕ → List ℕ) (n : ℕ) (ds : List ℕ) where
                   ∙ sym (ap (map (λ k. mask_of ds (lists k))) u ∙ map_snoc (λ k. mask_of ds (lists k)) (take count numbers) k);
             }
 
-        pub passed : mask_within ds (lists (get_or heads l 0)) ≡ 0 → Merging (get_or heads l 0 + 1) count numbers masks (set heads l (get_or next (get_or heads l 0) 0))
+        passed : mask_within ds (lists (get_or heads l 0)) ≡ 0 → Merging (get_or heads l 0 + 1) count numbers masks (set heads l (get_or next (get_or heads l 0) 0))
         passed e =
             let h = head_is in
             record {
@@ -189,3 +180,46 @@ module _ (lists : ℕ → List ℕ) (n : ℕ) (ds : List ℕ) where
               numbered = ap (λ (x : List ℕ). take count numbers ++ x) (sym (past_no (mask_no ds (lists (get_or heads l 0)) e))) ∙ g.numbered;
               masked = g.masked;
             }
+
+-- ---- the merge in its tables
+
+module _ (starts counts es : List ℕ) (n : ℕ) (first next ds numbers masks : List ℕ) (r : Merged starts counts es n first next ds numbers masks) where
+  pub merge_few : length ds ≤ 16
+  merge_few = fits_length (length first) ds r.checked
+
+  pub merge_rises : Rises 0 ds
+  merge_rises = fits_rises (length first) ds r.checked
+
+  pub merge_begin : (heads : List ℕ) → ((i : ℕ) → i < length ds → get_or heads i 0 ≡ get_or first (get_or ds i 0) 0) → Merging (detectors_at starts counts es) n ds 0 0 numbers masks heads
+  merge_begin heads h = begun (detectors_at starts counts es) n ds numbers masks heads (λ i q. h i q ∙ r.chains.begins (get_or ds i 0) (fits_at (length first) ds i r.checked q))
+
+  module _ (at count : ℕ) (numbers' masks' heads : List ℕ) (g : Merging (detectors_at starts counts es) n ds at count numbers' masks' heads) where
+    -- no mechanism is left, or no chain goes on
+    pub merge_end : n ≤ at → Gathered (detectors_at starts counts es) n ds count numbers' masks'
+    merge_end h = record { numbered = no_more (detectors_at starts counts es) n ds at count numbers' masks' heads g h; masked = g.masked; counted = omega (arith, g.counted, g.low) }
+
+    module _ (l : ℕ) (m : Least heads (length ds) l) where
+      pub merge_ended : get_or heads l 0 ≡ nowhere → Gathered (detectors_at starts counts es) n ds count numbers' masks'
+      merge_ended e = record {
+        numbered =
+            sym (append-nil (take count numbers'))
+            ∙ ap (λ (x : List ℕ). take count numbers' ++ x) (sym (ended (detectors_at starts counts es) n ds r.tables.few merge_rises at heads g.low g.headed l m e))
+            ∙ g.numbered;
+        masked = g.masked;
+        counted = omega (arith, g.counted, g.low);
+      }
+
+      module _ (f : get_or heads l 0 ≡ nowhere → ⊥) where
+        pub merge_head : (at ≤ get_or heads l 0) × (get_or heads l 0 < n)
+        merge_head = let h = head_is (detectors_at starts counts es) n ds r.tables.few merge_rises at heads g.low g.headed l m f in (h.0, h.1)
+
+        module _ (w : length heads ≡ 16) (mask : ℕ) (e : mask ≡ mask_within ds (detectors_at starts counts es (get_or heads l 0))) where
+          pub merge_taken : length numbers' ≡ length numbers → length masks' ≡ length masks → (mask ≡ 0 → ⊥)
+              → Merging (detectors_at starts counts es) n ds (get_or heads l 0 + 1) (count + 1) (set numbers' count (get_or heads l 0)) (set masks' count mask) (set heads l (get_or next (get_or heads l 0) 0))
+          merge_taken a b z =
+              let h = merge_head in
+              taken (detectors_at starts counts es) n ds r.tables.few merge_rises at heads g.low g.headed l m f first next r.chains (omega (arith, merge_few)) count numbers' masks' g mask
+              (omega (arith, g.counted, r.numbers_hold)) (omega (arith, g.counted, r.masks_hold)) e z
+
+          pub merge_passed : mask ≡ 0 → Merging (detectors_at starts counts es) n ds (get_or heads l 0 + 1) count numbers' masks' (set heads l (get_or next (get_or heads l 0) 0))
+          merge_passed z = passed (detectors_at starts counts es) n ds r.tables.few merge_rises at heads g.low g.headed l m f first next r.chains (omega (arith, merge_few)) count numbers' masks' g (sym e ∙ z)

@@ -1,35 +1,31 @@
 -- From the candidates in their tables to the first cover of the kept mechanisms.
+use Rattle.std.specs.Prelude.{Option, None}
+use Rattle.std.specs.Prelude.{Some}
 use Prim.Native.Nat.{ℕ, zero, suc, ◌+◌, ◌<◌, ◌≤◌}
 use native.Mathlib.Omega.{arith}
 use mathlib.Core.Path.{◌≡◌, refl, sym, ap, ap₂, ◌∙◌, subst}
 use mathlib.Core.List.{List, [], ◌∷◌, ◌++◌, map}
 use mathlib.Core.Bool.{true}
-use mathlib.Core.Option.{Option, none, some}
 use lib.ListN.{length, get_or, take, drop, length-take}
-use lib.Seq.{sets-eq, get_or-take}
+use lib.Seq.{sets-eq, get_or-take, length-take-le}
 use lib.Count.{ones}
 use Rattle.lists.specs.Lists.{from, below, member}
 use Rattle.lists.proofs.Truth.{and_right}
-use Rattle.lists.proofs.Members.{member_filter, member_below}
+use Rattle.lists.proofs.Members.{at_member, member_filter, member_below}
 use Rattle.dem.specs.Model.{Symptom, list_fits}
 use Rattle.dem.specs.Cover.{first_cover}
 use Rattle.cover.proofs.First.{all_within}
-use Rattle.cover.specs.declared.Cover.{Cover}
-use Rattle.cover.specs.declared.Cover.TheVariants.{Members}
 use Rattle.cover.specs.Kept.{detectors_at, observables_at, symptom_at, kept_in, Observables}
 use Rattle.cover.specs.Masks.{mask_of, word_of, mask_within, Candidate, candidate_of, is_candidate, candidates_from, cover_of}
-use Rattle.cover.specs.Search.{candidate_at, candidates_at, fresh_at, Worded, Gathered, Compacted, Outcome, Answered}
+use Rattle.cover.specs.Search.{candidate_at, candidates_at, fresh_at, Numbered, Worded, Gathered, Compact, Compacted, Outcome, Answered}
 use Rattle.cover.proofs.ByMasks.{by_masks}
-use Rattle.cover.proofs.Steps.{mask_all, fits_below, member_at}
+use Rattle.cover.proofs.Steps.{mask_all, fits_below}
 use Rattle.cover.proofs.Turn.{few_members}
 use Rattle.cover.proofs.Fresh.{fresh_distinct}
 use Rattle.cover.proofs.Distinct.{all_distinct}
 
-pub front_length : (l : List ℕ) (n : ℕ) → n ≤ length l → length (take n l) ≡ n
-front_length l n h = length-take n l ∙ omega arith
-
 -- the numbers of candidates are below n
-pub candidate_below : (ds : List ℕ) (lists : ℕ → List ℕ) (n k : ℕ) → member k (candidates_from ds lists n 0) ≡ true → k < n
+candidate_below : (ds : List ℕ) (lists : ℕ → List ℕ) (n k : ℕ) → member k (candidates_from ds lists n 0) ≡ true → k < n
 unfolding candidates_from below
 candidate_below ds lists n k m = member_below k n (and_right (is_candidate ds (lists k)) (member k (from n 0)) (sym (member_filter (λ k. is_candidate ds (lists k)) k (from n 0)) ∙ m))
 
@@ -53,7 +49,7 @@ module _ (symptoms : ℕ → Symptom) (n : ℕ) (ds : List ℕ) (count : ℕ) (n
   same_at : (i : ℕ) → i < count → candidate_at (take count numbers) (take count masks) (take count words0) (take count words1) i ≡ candidate_of ds symptoms (get_or (take count numbers) i 0)
   unfolding candidate_of
   same_at i h =
-      let l = front_length numbers count c in
+      let l = length-take-le count numbers c in
       let k : i < length (take count numbers) = omega (arith, l) in
       let a : get_or (take count masks) i 0 ≡ mask_of ds (symptoms (get_or (take count numbers) i 0)).detectors
       = ap (λ (x : List ℕ). get_or x i 0) g.masked ∙ get_d_map (λ k. mask_of ds (symptoms k).detectors) (take count numbers) i k in
@@ -66,27 +62,38 @@ module _ (symptoms : ℕ → Symptom) (n : ℕ) (ds : List ℕ) (count : ℕ) (n
       ≡ map (candidate_of ds symptoms) (candidates_from ds (λ k. (symptoms k).detectors) n 0)
   unfolding candidates_at
   same_candidates =
-      let l = front_length numbers count c in
+      let l = length-take-le count numbers c in
       ap (λ (m : ℕ). map (candidate_at (take count numbers) (take count masks) (take count words0) (take count words1)) (from m 0)) (sym l)
       ∙ map_at (candidate_at (take count numbers) (take count masks) (take count words0) (take count words1)) (candidate_of ds symptoms) (take count numbers) 0
       (λ i h. ap (candidate_at (take count numbers) (take count masks) (take count words0) (take count words1)) (omega arith) ∙ same_at i (omega (arith, l)))
       ∙ ap (map (candidate_of ds symptoms)) g.numbered
 
 -- each number that was gathered is a kept mechanism's
-pub number_below : (lists : ℕ → List ℕ) (n : ℕ) (ds : List ℕ) (count : ℕ) (numbers masks : List ℕ) → Gathered lists n ds count numbers masks → (i : ℕ) → i < length (take count numbers) → get_or (take count numbers) i 0 < n
+number_below : (lists : ℕ → List ℕ) (n : ℕ) (ds : List ℕ) (count : ℕ) (numbers masks : List ℕ) → Gathered lists n ds count numbers masks → (i : ℕ) → i < length (take count numbers) → get_or (take count numbers) i 0 < n
 number_below lists n ds count numbers masks g i h =
-    candidate_below ds lists n (get_or (take count numbers) i 0) (subst (λ (l : List ℕ). member (get_or (take count numbers) i 0) l ≡ true) g.numbered (member_at (take count numbers) i h))
+    candidate_below ds lists n (get_or (take count numbers) i 0) (subst (λ (l : List ℕ). member (get_or (take count numbers) i 0) l ≡ true) g.numbered (at_member (take count numbers) i h))
+
+-- so its observables are in the tables
+pub candidates_numbered : (starts counts others es : List ℕ) (n : ℕ) (first next ds numbers masks words0 words1 earlier : List ℕ) → Compact starts counts others es n first next ds numbers masks words0 words1 earlier
+    → (count : ℕ) (numbers' masks' : List ℕ) → Gathered (detectors_at starts counts es) n ds count numbers' masks' → Numbered starts counts others es (take count numbers') words0 words1
+candidates_numbered starts counts others es n first next ds numbers masks words0 words1 earlier r count numbers' masks' g = record {
+  started = λ i h. omega (arith, below_n i h, r.merged.tables.started);
+  counted = λ i h. omega (arith, below_n i h, r.merged.tables.counted);
+  observed = λ i h. omega (arith, below_n i h, r.observables.observed);
+  listed = λ i h. r.observables.listed (get_or (take count numbers') i 0) (below_n i h);
+  words0_hold = omega (arith, length-take count numbers', g.counted, r.words0_hold);
+  words1_hold = omega (arith, length-take count numbers', g.counted, r.words1_hold);
+}
+  where
+    below_n : (i : ℕ) → i < length (take count numbers') → get_or (take count numbers') i 0 < n
+    below_n = number_below (detectors_at starts counts es) n ds count numbers' masks' g
 
 -- an answer from place 0 on
-answered : (x : Option (List ℕ)) (l : List ℕ) (r : Cover) (l' : List ℕ) → ((ks : List ℕ) → x ≡ some ks → length ks ≤ length l) → Outcome x 0 l r l' → Answered x l r l'
-answered none l r l' f h = h
-answered (some ks) l r l' f h =
+answered : (x : Option (List ℕ)) (l : List ℕ) (r : Option ℕ) (l' : List ℕ) → ((ks : List ℕ) → x ≡ Some ks → length ks ≤ length l) → Outcome x 0 l r l' → Answered x l r l'
+answered None l r l' f h = h
+answered (Some ks) l r l' f h =
     let e : 0 + length ks ≡ length ks = omega arith in
-    (h.0 ∙ ap Members e, h.1 ∙ sets-eq ks l 0 (omega (arith, f ks refl)) ∙ front l ks (0 + length ks) ∙ ap (λ (k : ℕ). ks ++ drop k l) e)
-  where
-    front : (l ks : List ℕ) (k : ℕ) → take 0 l ++ ks ++ drop k l ≡ ks ++ drop k l
-    front [] ks k = refl
-    front (x ∷ l) ks k = refl
+    (h.0 ∙ ap Some e, h.1 ∙ sets-eq ks l 0 (omega (arith, f ks refl)) ∙ ap (λ (k : ℕ). ks ++ drop k l) e)
 
 -- the first cover is that of the candidates
 module _ (starts counts others es : List ℕ) (n : ℕ) (o : Observables starts counts others es n) (ds os : List ℕ) (k : list_fits 128 os ≡ true) where
@@ -101,7 +108,7 @@ module _ (starts counts others es : List ℕ) (n : ℕ) (o : Observables starts 
 
   -- what the search finds in the tables is the first cover
   pub found : (count : ℕ) (numbers masks words0 words1 earlier : List ℕ) → Compacted (symptom_at starts counts others es) n ds count numbers masks words0 words1 earlier
-      → (len m a b : ℕ) → len ≡ count → m ≡ mask_within ds ds → a ≡ word_of 0 os → b ≡ word_of 64 os → (l : List ℕ) → ones m ≤ length l → (r : Cover) (l' : List ℕ)
+      → (len m a b : ℕ) → len ≡ count → m ≡ mask_within ds ds → a ≡ word_of 0 os → b ≡ word_of 64 os → (l : List ℕ) → ones m ≤ length l → (r : Option ℕ) (l' : List ℕ)
       → Outcome (cover_of (fresh_at (take count numbers) (take count masks) (take count words0) (take count words1) (take count earlier) len 0) m a b) 0 l r l'
       → Answered (first_cover (kept_in starts counts others es n) (record { detectors = ds; observables = os })) l r l'
   found count numbers masks words0 words1 earlier g len m a b el em ea eb l room r l' h =

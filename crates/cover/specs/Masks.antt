@@ -1,6 +1,6 @@
 -- Detectors as the bits of a mask, observables as the bits of two words, and the first cover by them.
-use Rattle.std.specs.Prelude.{ℕ, suc, ◌+◌, ◌*◌, ◌≤◌, List, [], ◌∷◌, Bool, true, false, cond, not, ◌&&◌, eqb}
-use Rattle.std.proofs.Math.Option.{Option}
+use Rattle.std.specs.Prelude.{Option}
+use Rattle.std.specs.Prelude.{ℕ, suc, ◌+◌, ◌*◌, ◌≤◌, List, [], ◌∷◌, Bool, cond, not, ◌&&◌, eqb, position}
 use Rattle.std.specs.Int.Bits.{bit_and, bit_xor}
 use Rattle.lists.specs.Lists.{from, filter, member}
 use Rattle.dem.specs.Model.{Symptom}
@@ -51,14 +51,9 @@ abbrev pub Rises : ℕ → List ℕ → Type 0
 Rises low [] = Unit {0}
 Rises low (x ∷ xs) = (low ≤ x) × Rises (suc x) xs
 
--- where x stands in the list: its length where it does not
-abbrev pub step_place : Bool → ℕ → ℕ
-step_place true k = 0
-step_place false k = suc k
-
-unfoldable pub place_of : ℕ → List ℕ → ℕ
-place_of x [] = 0
-place_of x (y ∷ ys) = step_place (eqb y x) (place_of x ys)
+-- where x stands in the list
+abbrev pub place_of : ℕ → List ℕ → Option ℕ
+place_of x ds = position (λ y. eqb y x) ds
 
 -- c is not empty and lies within m
 unfoldable pub fits : ℕ → ℕ → Bool

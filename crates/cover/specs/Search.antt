@@ -1,11 +1,10 @@
 -- The search over the candidates in their tables, and its answer.
+use Rattle.std.specs.Prelude.{Option}
+use Rattle.std.specs.Prelude.{Some, None}
 use Rattle.std.specs.Prelude.{ℕ, zero, suc, ◌+◌, ◌<◌, ◌≤◌, ◌≡◌, List, map, Bool, true, cond, ◌&&◌, length, get_or, take, eqb}
-use Rattle.std.proofs.Math.Option.{Option, none, some}
 use Rattle.std.proofs.lemmas.List.Edits.{sets}
 use Rattle.std.specs.Int.Count.{ones}
 use Rattle.lists.specs.Lists.{from, filter}
-use Rattle.cover.specs.declared.Cover.{Cover}
-use Rattle.cover.specs.declared.Cover.TheVariants.{Members, Nothing}
 use Rattle.dem.specs.Model.{Symptom, list_fits}
 use Rattle.dem.specs.Tables.{written}
 use Rattle.cover.specs.Kept.{detectors_at, Detectors, Observables, Chains}
@@ -15,6 +14,16 @@ use Rattle.cover.specs.Masks.{Candidate, mask_of, word_of, candidate_of, candida
 unfoldable pub previous : (ℕ → Bool) → ℕ → ℕ
 previous p zero = 0
 previous p (suc n) = cond (p n) (suc n) (previous p n)
+
+-- that number itself
+unfoldable pub highest : (ℕ → Bool) → ℕ → Option ℕ
+highest p zero = None
+highest p (suc n) = cond (p n) (Some n) (highest p n)
+
+-- a number that there may be, plus one; 0 where there is none
+abbrev pub past : Option ℕ → ℕ
+past None = 0
+past (Some n) = n + 1
 
 -- candidates i and j have equal masks and words
 unfoldable pub equal_at : List ℕ → List ℕ → List ℕ → ℕ → ℕ → Bool
@@ -43,14 +52,14 @@ pub record Room (ns ms os ps es : List ℕ) (m : ℕ) (chosen : List ℕ) (depth
   pub room : 16 ≤ length chosen
 
 -- the answer of a search that writes from place d on, and every entry of the list that it leaves
-abbrev pub Outcome : Option (List ℕ) → ℕ → List ℕ → Cover → List ℕ → Type 0
-Outcome none d l r after = (r ≡ Nothing) × (after ≡ l)
-Outcome (some cs) d l r after = (r ≡ Members (d + length cs)) × (after ≡ sets l d cs)
+abbrev pub Outcome : Option (List ℕ) → ℕ → List ℕ → Option ℕ → List ℕ → Type 0
+Outcome None d l r after = (r ≡ None) × (after ≡ l)
+Outcome (Some cs) d l r after = (r ≡ Some (d + length cs)) × (after ≡ sets l d cs)
 
 -- the members of the cover at the front of the list and nothing else of it touched, or the list untouched
-abbrev pub Answered : Option (List ℕ) → List ℕ → Cover → List ℕ → Type 0
-Answered none l r after = (r ≡ Nothing) × (after ≡ l)
-Answered (some cs) l r after = (r ≡ Members (length cs)) × (after ≡ written cs l)
+abbrev pub Answered : Option (List ℕ) → List ℕ → Option ℕ → List ℕ → Type 0
+Answered None l r after = (r ≡ None) × (after ≡ l)
+Answered (Some cs) l r after = (r ≡ Some (length cs)) × (after ≡ written cs l)
 
 -- ---- the candidates in ascending order
 

@@ -6,19 +6,13 @@ ghost use Rattle.dem.specs.Model.{list_fits};
 ghost use Rattle.dem.specs.Cover.{first_cover};
 ghost use Rattle.cover.specs.Kept.{detectors_at, observables_at, symptom_at, kept_in, Detectors, Chains};
 ghost use Rattle.cover.specs.Masks.{word_of, mask_within, Rises, place_of, fits, cover_of};
-ghost use Rattle.cover.specs.Search.{previous, equal_at, fresh_at, Room, Outcome, Answered, Least, Gathered, Merged, Numbered, Worded, Compact, Compacted, Given};
+ghost use Rattle.cover.specs.Search.{previous, highest, equal_at, fresh_at, Room, Outcome, Answered, Least, Gathered, Merged, Numbered, Worded, Compact, Compacted, Given};
 
 // No mechanism.
 const NOWHERE: u32 = 4294967295;
 
-// The members of a cover stand at the front of the lent list.
-#[derive(Clone, Copy)]
-pub enum Cover {
-    Members(usize),
-    Nothing,
-}
-
 // Whether c is not empty and lies within m.
+#[tactic(auto, unfolding(crate::specs::Masks::fits))]
 fn fits_in(m: u16, c: u16) -> bool
     ensures { result ≡ fits m c }
 {
@@ -45,23 +39,18 @@ fn find_cover(
     start: usize,
     chosen: &mut [u32],
     depth: usize,
-) -> Cover
+) -> Option<usize>
     requires { Room numbers.now masks.now words0.now words1.now earlier.now mask chosen.old depth }
     ensures { Outcome (cover_of (fresh_at numbers.now masks.now words0.now words1.now earlier.now (length masks.now - start) start) mask word0 word1) depth chosen.old result chosen.new }
 {
     if mask == 0 {
-        if word0 != 0 {
-            return Cover::Nothing;
-        }
-        if word1 != 0 {
-            return Cover::Nothing;
-        }
-        return Cover::Members(depth);
+        return if word0 == 0 && word1 == 0 {
+            Some(depth)
+        } else {
+            None
+        };
     }
-    let mut next = start;
-    while next < masks.len() {
-        let at = next;
-        next += 1;
+    for at in start..masks.len() {
         let c = masks[at];
         if tries(earlier[at], mask, c) {
             let r = find_cover(
@@ -73,17 +62,17 @@ fn find_cover(
                 mask ^ c,
                 word0 ^ words0[at],
                 word1 ^ words1[at],
-                next,
+                at + 1,
                 chosen,
                 depth + 1,
             );
-            if let Cover::Members(n) = r {
+            if let Some(n) = r {
                 chosen[depth] = numbers[at];
-                return Cover::Members(n);
+                return Some(n);
             }
         }
     }
-    Cover::Nothing
+    None
 }
 
 // ---- chains by first detector
@@ -100,10 +89,8 @@ pub fn index_kept(
     requires { Detectors starts.now detector_counts.now entries.now kept (length first_of.old) × (kept ≤ length next_of.old) }
     ensures { Chains (detectors_at starts.now detector_counts.now entries.now) kept first_of.new next_of.new }
 {
-    tables::fill_u32(first_of, NOWHERE);
-    let mut k = kept;
-    while 0 < k {
-        k -= 1;
+    first_of.fill(NOWHERE);
+    for k in (0..kept).rev() {
         if 0 < detector_counts[k] {
             let start = starts[k] as usize;
             let d = entries[start] as usize;
@@ -115,18 +102,11 @@ pub fn index_kept(
 
 // ---- masks and words
 
-// Where x stands in ds: its length where it does not.
-fn place(ds: &[u32], x: u32) -> usize
+// Where x stands in ds.
+fn place(ds: &[u32], x: u32) -> Option<usize>
     ensures { result ≡ place_of x ds.now }
 {
-    let mut i = 0;
-    while i < ds.len() {
-        if ds[i] == x {
-            return i;
-        }
-        i += 1;
-    }
-    i
+    ds.iter().position(|d| *d == x)
 }
 
 // The mask of xs over ds: 0 where an entry of xs is not in ds.
@@ -135,14 +115,11 @@ fn mask_within(ds: &[u32], xs: &[u32]) -> u16
     ensures { result ≡ mask_within ds.now xs.now }
 {
     let mut mask: u16 = 0;
-    let mut i = xs.len();
-    while 0 < i {
-        i -= 1;
-        let j = place(ds, xs[i]);
-        if j == ds.len() {
+    for x in xs {
+        let Some(j) = place(ds, *x) else {
             return 0;
-        }
-        mask = mask | (1 << j);
+        };
+        mask |= 1 << j;
     }
     mask
 }
@@ -152,15 +129,9 @@ fn word_of(xs: &[u32], first: u32) -> u64
     ensures { result ≡ word_of first xs.now }
 {
     let mut w: u64 = 0;
-    let mut i = xs.len();
-    while 0 < i {
-        i -= 1;
-        let x = xs[i];
-        if first <= x {
-            let k = x - first;
-            if k < 64 {
-                w = w | (1 << k);
-            }
+    for x in xs {
+        if first <= *x && *x - first < 64 {
+            w |= 1 << (*x - first);
         }
     }
     w
@@ -169,16 +140,14 @@ fn word_of(xs: &[u32], first: u32) -> u64
 // ---- the candidates
 
 // The head of each detector's chain.
+#[tactic(auto, using(crate::proofs::Steps::fits_at, crate::proofs::Steps::fits_length))]
 fn heads_of(detectors: &[u32], first_of: &[u32]) -> [u32; 16]
     requires { list_fits (length first_of.now) detectors.now ≡ true }
     ensures { (i : ℕ) → i < length detectors.now → get_or result i 0 ≡ get_or first_of.now (get_or detectors.now i 0) 0 }
 {
     let mut heads = [NOWHERE; 16];
-    let mut i = 0;
-    while i < detectors.len() {
-        let d = detectors[i] as usize;
-        heads[i] = first_of[d];
-        i += 1;
+    for (i, d) in detectors.iter().enumerate() {
+        heads[i] = first_of[*d as usize];
     }
     heads
 }
@@ -189,10 +158,7 @@ fn lowest_head(heads: &[u32; 16], n: usize) -> usize
     ensures { Least heads.now n result }
 {
     let mut at = 0;
-    let mut next = 1;
-    while next < n {
-        let i = next;
-        next += 1;
+    for i in 1..n {
         if heads[i] < heads[at] {
             at = i;
         }
@@ -228,6 +194,7 @@ fn gather(
     let mut heads = heads_of(ds, first_of);
     let mut count = 0;
     let mut next = 0;
+    // kept: it goes from head to head, and not by an index; a `for` over 0..kept would look for a lowest head once more than this
     while next < kept {
         let lowest = lowest_head(&heads, ds.len());
         let head = heads[lowest];
@@ -277,55 +244,47 @@ fn fill_words(
     requires { Numbered starts.now detector_counts.now observable_counts.now entries.now numbers.now words0.old words1.old }
     ensures { Worded (observables_at starts.now detector_counts.now observable_counts.now entries.now) numbers.now words0.new words1.new }
 {
-    let mut i = 0;
-    while i < numbers.len() {
-        let k = numbers[i] as usize;
+    for (i, number) in numbers.iter().enumerate() {
+        let k = *number as usize;
         words0[i] = word_at(starts, detector_counts, observable_counts, entries, k, 0);
         words1[i] = word_at(starts, detector_counts, observable_counts, entries, k, 64);
-        i += 1;
     }
 }
 
 // ---- repeated candidates
 
 // Whether candidates i and j have equal masks and words.
+#[tactic(auto, unfolding(crate::specs::Search::equal_at))]
 fn equal_at(masks: &[u16], words0: &[u64], words1: &[u64], i: usize, j: usize) -> bool
     requires { (i < length masks.now) × (j < length masks.now) × (length words0.now ≡ length masks.now) × (length words1.now ≡ length masks.now) }
     ensures { result ≡ equal_at masks.now words0.now words1.now i j }
 {
-    if masks[i] != masks[j] {
-        return false;
-    }
-    if words0[i] != words0[j] {
-        return false;
-    }
-    words1[i] == words1[j]
+    masks[i] == masks[j] && words0[i] == words0[j] && words1[i] == words1[j]
 }
 
-// The place of the last candidate before j that equals it, plus one; 0 where none does.
-fn earlier_equal(masks: &[u16], words0: &[u64], words1: &[u64], j: usize) -> usize
+// The place of the last candidate before j that equals it.
+fn earlier_equal(masks: &[u16], words0: &[u64], words1: &[u64], j: usize) -> Option<usize>
     requires { (j < length masks.now) × (length words0.now ≡ length masks.now) × (length words1.now ≡ length masks.now) }
-    ensures { result ≡ previous (λ i. equal_at masks.now words0.now words1.now i j) j }
+    ensures { result ≡ highest (λ i. equal_at masks.now words0.now words1.now i j) j }
 {
-    let mut i = j;
-    while 0 < i {
-        if equal_at(masks, words0, words1, i - 1, j) {
-            return i;
+    for i in (0..j).rev() {
+        if equal_at(masks, words0, words1, i, j) {
+            return Some(i);
         }
-        i -= 1;
     }
-    0
+    None
 }
 
-// The same of every candidate.
+// That place plus one, for every candidate; 0 where there is none.
 fn mark_earlier(masks: &[u16], words0: &[u64], words1: &[u64], earlier: &mut [u32])
     requires { (length masks.now ≤ 16384) × (length words0.now ≡ length masks.now) × (length words1.now ≡ length masks.now) × (length masks.now ≤ length earlier.old) }
     ensures { (j : ℕ) → j < length masks.now → get_or earlier.new j 0 ≡ previous (λ i. equal_at masks.now words0.now words1.now i j) j }
 {
-    let mut j = 0;
-    while j < masks.len() {
-        earlier[j] = earlier_equal(masks, words0, words1, j) as u32;
-        j += 1;
+    for j in 0..masks.len() {
+        earlier[j] = match earlier_equal(masks, words0, words1, j) {
+            Some(i) => i as u32 + 1,
+            None => 0,
+        };
     }
 }
 
@@ -391,9 +350,9 @@ pub fn partition_cover(
     words1: &mut [u64],
     earlier: &mut [u32],
     chosen: &mut [u32],
-) -> Cover
+) -> Option<usize>
     requires { Given starts.now detector_counts.now observable_counts.now entries.now kept first_of.now next_of.now detectors.now observables.now numbers.old masks.old words0.old words1.old earlier.old chosen.old }
-    ensures { Answered (first_cover (kept_in starts.now detector_counts.now observable_counts.now entries.now kept) (record { detectors = detectors.entry.now; observables = observables.now })) chosen.old result chosen.new }
+    ensures { Answered (first_cover (kept_in starts.now detector_counts.now observable_counts.now entries.now kept) (record { detectors = detectors.now; observables = observables.now })) chosen.old result chosen.new }
 {
     let n = compact(
         starts,

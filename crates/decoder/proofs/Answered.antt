@@ -1,16 +1,15 @@
 -- What the call answers and leaves, by the check and by the steps.
+use Rattle.codes.specs.Order.{Checked}
+use Rattle.std.specs.Prelude.{Ok, Err}
 use Prim.Native.Nat.{ℕ}
 use native.Mathlib.Nat.{one-mul}
 use mathlib.Core.Path.{◌≡◌, refl, sym, ap, ◌∙◌}
 use mathlib.Core.List.{List, []}
-use mathlib.Core.Bool.{Bool, true, false}
+use mathlib.Core.Bool.{Bool, true}
 use lib.ListN.{length}
-use Rattle.lists.proofs.Truth.{clash}
 use Rattle.bits.specs.Rows.{words}
 use Rattle.bits.proofs.Booleans.{bits_length}
 use Rattle.codes.specs.declared.Refusal.{Refusal}
-use Rattle.codes.specs.declared.Checked.{Checked}
-use Rattle.codes.specs.declared.Checked.TheVariants.{Accepted, Refused}
 use Rattle.steps.specs.Shot.{Decoded, impossible, corrected, row_left}
 use Rattle.steps.specs.Call.{graph_of, list_left}
 use Rattle.found.proofs.Found.{found}
@@ -39,42 +38,37 @@ pub checked : (h : Handed) (long : Bool) (c : Checked) → long ≡ own_long h �
 unfolding checks
 checked h long c p q = sym (q ∙ ap (λ (b : Bool). check_call h.graph b h.shot 1 h.width) p)
 
-pub accepts : (h : Handed) → checks h ≡ Accepted → Accepts h.graph (own_long h) h.shot 1 h.width
+pub accepts : (h : Handed) → checks h ≡ Ok tt → Accepts h.graph (own_long h) h.shot 1 h.width
 unfolding checks
 accepts h a = call_accepted h.graph (own_long h) h.shot 1 h.width a
 
 -- a refusal is no acceptance
-refuses : Checked → Bool
-refuses Accepted = false
-refuses (Refused r) = true
-
-not_accepted : {X : Type 0} (r : Refusal) → Refused r ≡ Accepted → X
-unfolding refuses
-not_accepted {X} r h = clash {C = X} {b = refuses (Refused r)} refl (ap refuses h)
+not_accepted : (r : Refusal) → ◌≡◌ {A = Checked} (Err r) (Ok tt) → ⊥
+not_accepted r h = cc
 
 -- the answer on the sheet
 on_sheet : (c : Checked) (x : Decoded) → sheet_of (answer_of c x) ≡ call_row c x
 unfolding call_row answer_of
-on_sheet (Refused r) x = refl
-on_sheet Accepted (impossible n d) = refl
-on_sheet Accepted (corrected n list) = refl
+on_sheet (Err r) x = refl
+on_sheet (Ok tt) (impossible n d) = refl
+on_sheet (Ok tt) (corrected n list) = refl
 
-pub refused : (h : Handed) (r : Refusal) → checks h ≡ Refused r → Decodes h (answer.Refused r) h.list h.row
+pub refused : (h : Handed) (r : Refusal) → checks h ≡ Err r → Decodes h (answer.Refused r) h.list h.row
 unfolding call_row answer_of list_after row_after
 refused h r e = record {
   sheet = rw e refl;
   answers = rw e refl;
   lists = rw e refl;
   rows = rw e refl;
-  found = λ a. not_accepted r (sym e ∙ a);
+  found = λ a. absurd (not_accepted r (sym e ∙ a));
 }
 
-answered : (x : Decoded) → answer_to (shot_of x) ≡ answer_of Accepted x
+answered : (x : Decoded) → answer_to (shot_of x) ≡ answer_of (Ok tt) x
 unfolding answer_of
 answered (impossible n d) = refl
 answered (corrected n list) = refl
 
-pub decodes : (h : Handed) → checks h ≡ Accepted → {shot : Shot} {r : Answer} {list row : List ℕ} → r ≡ answer_to shot
+pub decodes : (h : Handed) → checks h ≡ Ok tt → {shot : Shot} {r : Answer} {list row : List ℕ} → r ≡ answer_to shot
     → shot ≡ shot_of (decoded h) → list ≡ list_left h.list (decoded h) → row ≡ row_left (graph_of_call h) h.row (decoded h) → Decodes h r list row
 unfolding list_after row_after graph_of
 decodes h a p q s t =
@@ -93,7 +87,7 @@ blank_steps : (h : Handed) → is_blank h.shot ≡ true → decoded h ≡ correc
 unfolding graph_of
 blank_steps h b = blank (graph_of_call h) h.shot (none_lit h.graph.detectors h.shot b)
 
-pub blanked : (h : Handed) → checks h ≡ Accepted → is_blank h.shot ≡ true → Decodes h (answer.Decoded 0 0) h.list h.row
+pub blanked : (h : Handed) → checks h ≡ Ok tt → is_blank h.shot ≡ true → Decodes h (answer.Decoded 0 0) h.list h.row
 unfolding list_left
 blanked h a b =
     let q = blank_steps h b in

@@ -1,10 +1,10 @@
 -- What the call answers and leaves: docs/RULES.md, "Growth", "Peeling" and "Refusals".
+use Rattle.codes.specs.Order.{Checked}
+use Rattle.std.specs.Prelude.{Ok, Err}
 use Rattle.std.specs.Prelude.{ℕ, ◌≡◌, List, [], ◌∷◌, Bool, ◌&&◌, length}
 use Rattle.std.proofs.Math.Dec.{leb}
 use Rattle.bits.specs.Rows.{words}
 use Rattle.codes.specs.Codes.{Sheet, refusal_row, success_row}
-use Rattle.codes.specs.declared.Checked.{Checked}
-use Rattle.codes.specs.declared.Checked.TheVariants.{Accepted, Refused}
 use Rattle.steps.specs.Graph.{Graph}
 use Rattle.steps.specs.Shot.{Decoded, impossible, corrected, decode, row_left}
 use Rattle.steps.specs.Call.{lit_of, list_left}
@@ -69,29 +69,29 @@ sheet_of (answer.Refused r) = refusal_row r
 
 -- and for the call: the first refusal of the check, else what the steps come to
 unfoldable pub call_row : Checked → Decoded → Sheet
-call_row (Refused r) x = refusal_row r
-call_row Accepted (impossible n d) = stuck_row n d
-call_row Accepted (corrected n list) = decoded_row n (length list)
+call_row (Err r) x = refusal_row r
+call_row (Ok tt) (impossible n d) = stuck_row n d
+call_row (Ok tt) (corrected n list) = decoded_row n (length list)
 
 -- ---- the answer by its cases, and what is left
 
 -- a refusal of the check, else what the steps come to: the rounds finished, with the list's length or the detector named
 unfoldable pub answer_of : Checked → Decoded → Answer
-answer_of (Refused r) x = answer.Refused r
-answer_of Accepted (impossible n d) = answer.Stuck n d
-answer_of Accepted (corrected n list) = answer.Decoded n (length list)
+answer_of (Err r) x = answer.Refused r
+answer_of (Ok tt) (impossible n d) = answer.Stuck n d
+answer_of (Ok tt) (corrected n list) = answer.Decoded n (length list)
 
 -- the list: untouched after a refusal and after Stuck, else the edges peeled and then what was there
 unfoldable pub list_after : Checked → List ℕ → Decoded → List ℕ
 unfolding list_left
-list_after (Refused r) was x = was
-list_after Accepted was x = list_left was x
+list_after (Err r) was x = was
+list_after (Ok tt) was x = list_left was x
 
 -- the row: untouched after a refusal and after Stuck, else XORed with the observables of the list
 unfoldable pub row_after : Checked → Graph → List ℕ → Decoded → List ℕ
 unfolding row_left
-row_after (Refused r) g was x = was
-row_after Accepted g was x = row_left g was x
+row_after (Err r) g was x = was
+row_after (Ok tt) g was x = row_left g was x
 
 -- all that the call promises: its answer, every word of the list and of the row, and demand 3 of the graph and the shot that it was handed. What the scratch slices hold after it is free.
 pub record Decodes (h : Handed) (r : Answer) (list row : List ℕ) : Type 0 where
@@ -99,4 +99,4 @@ pub record Decodes (h : Handed) (r : Answer) (list row : List ℕ) : Type 0 wher
   pub answers : r ≡ answer_of (checks h) (decoded h)
   pub lists : list ≡ list_after (checks h) h.list (decoded h)
   pub rows : row ≡ row_after (checks h) (graph_of_call h) h.row (decoded h)
-  pub found : checks h ≡ Accepted → Found by_steps (graph_of_call h) (lit_of_call h)
+  pub found : checks h ≡ Ok tt → Found by_steps (graph_of_call h) (lit_of_call h)

@@ -12,7 +12,9 @@ ghost use Rattle.shot.specs.Longer.{Longer};
 ghost use Rattle.decoder.specs.Answer.{handed, Decodes};
 ghost use Rattle.decoder.specs.Parts.{answer_to};
 
-use codes::{Checked, Refusal};
+use adjacency::Neighbor;
+use cells::{Flags, Link, Node, Stack};
+use codes::Refusal;
 use scratch::Lengths;
 use shot::Shot;
 
@@ -26,16 +28,19 @@ pub enum Answer {
 }
 
 // The answer of a call that was accepted.
-fn answer_of(shot: Shot) -> Answer
-    ensures { result ≡ answer_to shot }
-{
-    match shot {
-        Shot::Decoded { rounds, length } => Answer::Decoded { rounds, length },
-        Shot::Stuck { rounds, detector } => Answer::Stuck { rounds, detector },
+impl From<Shot> for Answer {
+    ghost from_gives = { λ shot answer. answer ≡ answer_to shot };
+
+    fn from(shot: Shot) -> Answer {
+        match shot {
+            Shot::Decoded { rounds, length } => Answer::Decoded { rounds, length },
+            Shot::Stuck { rounds, detector } => Answer::Stuck { rounds, detector },
+        }
     }
 }
 
 // The tables put to rest, whatever they held, and the shot decoded. Of slices that may be longer than the counts need the first entries are lent. Long for its parameters, one a line.
+#[tactic(auto, using(shot::proofs::Longer::small_of))]
 fn reset_and_decode(
     detectors: usize,
     observables: usize,
@@ -45,14 +50,14 @@ fn reset_and_decode(
     edge_weight: &[f64],
     edge_obs: &[u64],
     adj_offsets: &[u32],
-    adj: &[[u32; 2]],
+    adj: &[Neighbor],
     shot: &[u64],
     row: &mut [u64],
     list: &mut [u32],
-    tree: &mut [[u32; 2]],
-    flags: &mut [[bool; 8]],
-    stacks: &mut [[u32; 6]],
-    links: &mut [[u32; 4]],
+    tree: &mut [Node],
+    flags: &mut [Flags],
+    stacks: &mut [Stack],
+    links: &mut [Link],
     growth: &mut [f64],
     sat: &mut [bool],
 ) -> Shot
@@ -65,8 +70,6 @@ fn reset_and_decode(
     ensures rows { row.new ≡ row_left (graph_of detectors observables edges edge_u.now edge_v.now edge_weight.now edge_obs.now) row.old (decode (graph_of detectors observables edges edge_u.now edge_v.now edge_weight.now edge_obs.now) (lit_of detectors shot.now)) }
 {
     rest::reset(detectors, edges, tree, flags, growth, sat);
-    columns::stack_rows(stacks);
-    columns::link_rows(links);
     let offsets = detectors + 1;
     shot::decode_clean(
         detectors,
@@ -97,11 +100,11 @@ pub fn decode_shot(
     row: &mut [u64],
     list: &mut [u32],
     adj_offsets: &mut [u32],
-    adj: &mut [[u32; 2]],
-    tree: &mut [[u32; 2]],
-    flags: &mut [[bool; 8]],
-    stacks: &mut [[u32; 6]],
-    links: &mut [[u32; 4]],
+    adj: &mut [Neighbor],
+    tree: &mut [Node],
+    flags: &mut [Flags],
+    stacks: &mut [Stack],
+    links: &mut [Link],
     growth: &mut [f64],
     sat: &mut [bool],
     edge_u: &[u32],
@@ -145,11 +148,10 @@ pub fn decode_shot(
         1,
         width,
     );
-    if let Checked::Refused(r) = checked {
+    if let Err(r) = checked {
         return Answer::Refused(r);
     }
-    let blank = shot::is_blank(shot);
-    if blank {
+    if shot::is_blank(shot) {
         return Answer::Decoded {
             rounds: 0,
             length: 0,
@@ -176,5 +178,5 @@ pub fn decode_shot(
         growth,
         sat,
     );
-    answer_of(found)
+    Answer::from(found)
 }

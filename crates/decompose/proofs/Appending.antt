@@ -50,58 +50,48 @@ module _ (starts ds os es : List ℕ) where
       ap symptom_entries (lists_split k i (i + 1) h (omega arith)) ∙ entries_append (lists k i) (lists i (i + 1))
       ∙ ap (λ (l : List ℕ). symptom_entries (lists k i) ++ l) (part_of i)
 
-  module _ (k n at : ℕ) (was : List ℕ) where
-    abbrev so_far : ℕ → List ℕ
-    so_far i = take at was ++ symptom_entries (lists k i)
+-- the lists of mechanisms k to i are written, after the first `at` entries
+abbrev so_far : List ℕ → List ℕ → List ℕ → List ℕ → ℕ → ℕ → List ℕ → ℕ → List ℕ
+so_far starts ds os es k at was i = take at was ++ symptom_entries (lists_from starts ds os es k i)
 
-    -- the lists of mechanisms k to i are written
-    pub record Appending (i to : ℕ) (out : List ℕ) : Type 0 where
-      pub low : k ≤ i
-      pub high : i ≤ n
-      pub counted : to ≡ length (so_far i)
-      pub copied : out ≡ written (so_far i) was
+pub record Appending (starts ds os es : List ℕ) (k at : ℕ) (was : List ℕ) (i to : ℕ) (out : List ℕ) : Type 0 where
+  pub counted : to ≡ length (so_far starts ds os es k at was i)
+  pub copied : out ≡ written (so_far starts ds os es k at was i) was
 
-    module _ (a : Appendable starts ds os es k n at was) where
-      front : length (take at was) ≡ at
-      front = length-take-le at was (omega (arith, a.room))
+module _ {starts ds os es : List ℕ} {k n at : ℕ} {was : List ℕ} (a : Appendable starts ds os es k n at was) where
+  front : length (take at was) ≡ at
+  front = length-take-le at was (omega (arith, a.room))
 
-      pub appending_none : Appending k at was
-      unfolding symptom_entries
-      appending_none =
-          let e : so_far k ≡ take at was = ap (λ (l : List Symptom). take at was ++ symptom_entries l) (lists_none k) ∙ append-nil (take at was) in
-          record {
-            low = omega arith;
-            high = a.ordered;
-            counted = sym (ap length e ∙ front);
-            copied = sym (ap (λ (l : List ℕ). written l was) e ∙ ap (λ (m : ℕ). take at was ++ drop m was) front ∙ take-append-drop at was);
-          }
+  pub appending_none : Appending starts ds os es k at was k at was
+  unfolding symptom_entries
+  appending_none =
+      let e : so_far starts ds os es k at was k ≡ take at was = ap (λ (l : List Symptom). take at was ++ symptom_entries l) (lists_none starts ds os es k) ∙ append-nil (take at was) in
+      record {
+        counted = sym (ap length e ∙ front);
+        copied = sym (ap (λ (l : List ℕ). written l was) e ∙ ap (λ (m : ℕ). take at was ++ drop m was) front ∙ take-append-drop at was);
+      }
 
-      module _ (i : ℕ) (l : i < n) where
-        abbrev size : ℕ
-        size = get_or ds i 0 + get_or os i 0
+  module _ {i to : ℕ} {out : List ℕ} (g : Appending starts ds os es k at was i to out) (h : k ≤ i) (l : i < n) where
+    abbrev part : List ℕ
+    part = take (get_or ds i 0 + get_or os i 0) (drop (get_or starts i 0) es)
 
-        abbrev part : List ℕ
-        part = take size (drop (get_or starts i 0) es)
+    part_long : length part ≡ get_or ds i 0 + get_or os i 0
+    part_long = length-take-le _ (drop (get_or starts i 0) es) (omega (arith, a.listed i l, length-drop (get_or starts i 0) es))
 
-        pub part_long : length part ≡ size
-        part_long = length-take-le size (drop (get_or starts i 0) es) (omega (arith, a.listed i l, length-drop (get_or starts i 0) es))
+    pub part_fits : to + (get_or ds i 0 + get_or os i 0) ≤ length was
+    part_fits =
+        let e = ap symptom_entries (lists_split starts ds os es k (i + 1) n (omega arith) (omega arith)) ∙ entries_append (lists starts ds os es k (i + 1)) (lists starts ds os es (i + 1) n) in
+        let m : length (symptom_entries (lists starts ds os es k (i + 1))) + length (symptom_entries (lists starts ds os es (i + 1) n)) ≡ length (symptom_entries (lists starts ds os es k n)) =
+        sym (ap length e ∙ length-append (symptom_entries (lists starts ds os es k (i + 1))) (symptom_entries (lists starts ds os es (i + 1) n))) in
+        let q = ap length (entries_next starts ds os es k i h) ∙ length-append (symptom_entries (lists starts ds os es k i)) part in
+        omega (arith, m, q, part_long, a.room, g.counted, length-append (take at was) (symptom_entries (lists starts ds os es k i)), front)
 
-        pub part_fits : (to : ℕ) (out : List ℕ) → Appending i to out → to + size ≤ length was
-        part_fits to out g =
-            let e = ap symptom_entries (lists_split k (i + 1) n (omega (arith, g.low)) (omega arith)) ∙ entries_append (lists k (i + 1)) (lists (i + 1) n) in
-            let m : length (symptom_entries (lists k (i + 1))) + length (symptom_entries (lists (i + 1) n)) ≡ length (symptom_entries (lists k n)) =
-            sym (ap length e ∙ length-append (symptom_entries (lists k (i + 1))) (symptom_entries (lists (i + 1) n))) in
-            let q = ap length (entries_next k i g.low) ∙ length-append (symptom_entries (lists k i)) part in
-            omega (arith, m, q, part_long, a.room, g.counted, length-append (take at was) (symptom_entries (lists k i)), front)
-
-        pub appending_next : (to : ℕ) (out out' xs : List ℕ) → Appending i to out → xs ≡ part → out' ≡ take to out ++ (xs ++ drop (to + length xs) out) → Appending (i + 1) (to + size) out'
-        appending_next to out out' xs g x e =
-            let next : so_far i ++ part ≡ so_far (i + 1) =
-            append_assoc (take at was) (symptom_entries (lists k i)) part ∙ ap (λ (r : List ℕ). take at was ++ r) (sym (entries_next k i g.low)) in
-            record {
-              low = omega (arith, g.low);
-              high = omega arith;
-              counted = omega (arith, g.counted, ap length next, length-append (so_far i) part, part_long);
-              copied = e ∙ ap₂ (λ (o : List ℕ) (p : List ℕ). take to o ++ (p ++ drop (to + length p) o)) g.copied x
-                  ∙ written_paste (so_far i) was to part g.counted ∙ ap (λ (r : List ℕ). written r was) next;
-            }
+    pub appending_next : (out' xs : List ℕ) → xs ≡ part → out' ≡ take to out ++ (xs ++ drop (to + length xs) out) → Appending starts ds os es k at was (i + 1) (to + (get_or ds i 0 + get_or os i 0)) out'
+    appending_next out' xs x e =
+        let next : so_far starts ds os es k at was i ++ part ≡ so_far starts ds os es k at was (i + 1) =
+        append_assoc (take at was) (symptom_entries (lists starts ds os es k i)) part ∙ ap (λ (r : List ℕ). take at was ++ r) (sym (entries_next starts ds os es k i h)) in
+        record {
+          counted = omega (arith, g.counted, ap length next, length-append (so_far starts ds os es k at was i) part, part_long);
+          copied = e ∙ ap₂ (λ (o : List ℕ) (p : List ℕ). take to o ++ (p ++ drop (to + length p) o)) g.copied x
+              ∙ written_paste (so_far starts ds os es k at was i) was to part g.counted ∙ ap (λ (r : List ℕ). written r was) next;
+        }

@@ -1,12 +1,12 @@
 -- From the kept mechanisms to the model that they grow to, table by table.
+use Rattle.std.specs.Prelude.{Result, Ok, Err}
 use Prim.Native.Nat.{ℕ, ◌+◌, ◌-◌, ◌<◌, ◌≤◌}
 use native.Mathlib.Omega.{arith}
 use mathlib.Core.Path.{◌≡◌, refl, sym, ap, ap₂, ◌∙◌, subst}
-use mathlib.Core.List.{List, [], ◌++◌, map, append_assoc}
-use lib.ListN.{length, get_or, take, drop, replicate, length-append, length-replicate, length-drop, length-map, get_or-map}
-use lib.Seq.{drop-append-add, drop-append_seam, take-append_seam, drop-drop, length-take-le, ext_get_or}
+use mathlib.Core.List.{List, [], ◌++◌, map}
+use lib.ListN.{length, get_or, take, drop, replicate, length-append, length-map, get_or-map}
+use lib.Seq.{drop-append-add, drop-append_seam, take-append_seam, drop-drop, ext_get_or}
 use lib.Ieee.{Float, nan}
-use borrow.Rule.Slice.PartMut.{put_mid}
 use Rattle.lists.proofs.Members.{get_d_below, length_below}
 use Rattle.lists.specs.Lists.{from, below}
 use Rattle.codes.specs.declared.Refusal.{Refusal}
@@ -19,16 +19,12 @@ use Rattle.cover.specs.Kept.{symptom_at}
 use Rattle.suggested.specs.declared.Size.{Size}
 use Rattle.suggested.specs.Held.{places_of, size_of, Holds}
 use Rattle.suggested.proofs.Models.{lengths}
-use Rattle.splits.specs.declared.Step.{Step}
-use Rattle.splits.specs.declared.Step.TheVariants.{Grown, Refused}
 use Rattle.splits.specs.Ready.{After}
 use Rattle.split_model.specs.declared.Counts.{Counts}
 use Rattle.split_model.specs.Begun.{symptoms_of, columns_of}
 use Rattle.split_model.specs.Laws.{Grows}
 use Rattle.split_model.proofs.Grows.{decomposed}
 use Rattle.split_model.proofs.Start.{entries_are}
-use Rattle.decompose.specs.declared.Decomposed.{Decomposed}
-use Rattle.decompose.specs.declared.Decomposed.TheVariants as answer
 use Rattle.decompose.specs.Call.{counts_of}
 use Rattle.decompose.specs.Appended.{lists_from, Appendable}
 use Rattle.decompose.specs.Made.{Finished, Roomy, Made}
@@ -44,15 +40,6 @@ written_over {A} a b was h =
     ap (λ (k : ℕ). b ++ drop k (written a was)) e ∙ ap (λ (l : List A). b ++ l) (drop-append-add a (drop (length a) was) m ∙ drop-drop m (length a) was)
     ∙ ap (λ (k : ℕ). b ++ drop k was) (sym e)
 
--- a part that was zeroed
-pub zero_part : (k n : ℕ) (xs ys : List ℕ) → k ≤ n → n ≤ length xs → ys ≡ replicate (length (take (n - k) (drop k xs))) 0
-    → put_mid k (n - k) xs ys ≡ written (take k xs ++ replicate (n - k) 0) xs
-zero_part k n xs ys h l e =
-    let z : List ℕ = replicate (n - k) 0 in
-    let m : length (take (n - k) (drop k xs)) ≡ n - k = length-take-le (n - k) (drop k xs) (omega (arith, length-drop k xs)) in
-    let j : length (take k xs ++ z) ≡ k + (n - k) = omega (arith, length-append (take k xs) z, length-take-le k xs (omega arith), length-replicate {A = ℕ} (n - k) 0) in
-    rw (e, m, j, drop-drop (n - k) k xs) (sym (append_assoc (take k xs) z (drop (k + (n - k)) xs)))
-
 -- ---- what splitting comes to
 
 abbrev nothing : ErrorMechanism
@@ -65,24 +52,24 @@ pub record Grew (n : ℕ) (t : Tables) (room : Size) (was : Tables) (size : Size
   pub sized : size ≡ size_of ms
   pub holds : Holds ms was (size_of ms) t.entries starts counts others ps last before
 
-module _ (n : ℕ) (t : Tables) (room : Size) (was : Tables) (r : Step) (starts counts others : List ℕ) (ps : List Float) (last before : List ℕ)
-    (a : After (decompose (places_of room) (model_of n t)) was r t.entries starts counts others ps last before) where
-  pub grew : (s : Size) → r ≡ Grown s → Grew n t room was s starts counts others ps last before
-  grew s e = go (decompose (places_of room) (model_of n t)) refl a
+module _ (n : ℕ) (t : Tables) (room : Size) (was : Tables) (starts counts others : List ℕ) (ps : List Float) (last before : List ℕ) where
+  pub grew : (s : Size) → After (decompose (places_of room) (model_of n t)) was (Ok s) t.entries starts counts others ps last before → Grew n t room was s starts counts others ps last before
+  grew s a = go (decompose (places_of room) (model_of n t)) refl a
     where
-      go : (x : Split) → decompose (places_of room) (model_of n t) ≡ x → After x was r t.entries starts counts others ps last before → Grew n t room was s starts counts others ps last before
+      go : (x : Split) → decompose (places_of room) (model_of n t) ≡ x → After x was (Ok s) t.entries starts counts others ps last before → Grew n t room was s starts counts others ps last before
       go (into ms) q o = record { ms = ms; is = q; sized = cc o.0; holds = o.1 }
-      go (refused x) q o = absurd (let z : ◌≡◌ {A = ℕ} 0 1 = cc in omega arith)
+      go (refused x) q o = absurd (cc o)
 
-  pub stopped : (z : Refusal) → r ≡ Refused z → (old after : Tables) → Made (decompose (places_of room) (model_of n t)) old (answer.Refused z) after
-  stopped z e old after = go (decompose (places_of room) (model_of n t)) a
+  pub stopped : (z : Refusal) (r : Result Counts Refusal) (old after : Tables) → After (decompose (places_of room) (model_of n t)) was (Err z) t.entries starts counts others ps last before → r ≡ Err z
+      → Made (decompose (places_of room) (model_of n t)) old r after
+  stopped z r old after a e = go (decompose (places_of room) (model_of n t)) a
     where
-      go : (x : Split) → After x was r t.entries starts counts others ps last before → Made x old (answer.Refused z) after
-      go (into ms) o = absurd (let y : ◌≡◌ {A = ℕ} 0 1 = cc o.0 in omega arith)
-      go (refused x) o = let w : z ≡ x = cc in ap answer.Refused w
+      go : (x : Split) → After x was (Err z) t.entries starts counts others ps last before → Made x old r after
+      go (into ms) o = absurd (cc o.0)
+      go (refused x) o = let w : z ≡ x = cc in e ∙ ap Err w
 
-module _ (n : ℕ) (t : Tables) (room : Size) (was : Tables) (size : Size) (starts counts others : List ℕ) (ps : List Float) (last before : List ℕ)
-    (g : Grew n t room was size starts counts others ps last before) (kept : Counts) (cs out : List ℕ)
+module _ {n : ℕ} {t : Tables} {room : Size} {was : Tables} {size : Size} {starts counts others : List ℕ} {ps : List Float} {last before : List ℕ}
+    (g : Grew n t room was size starts counts others ps last before) {kept : Counts} {cs out : List ℕ}
     (r : Roomy (kept_of (model_of n t)) kept room cs out) where
   abbrev ks : List ErrorMechanism
   ks = kept_of (model_of n t)
@@ -202,16 +189,16 @@ module _ (n : ℕ) (t : Tables) (room : Size) (was : Tables) (size : Size) (star
     same_tables o1 o2 o3 o4 o5 o6 o7 e1 e2 e3 e4 e5 e6 e7 = rw (e1, e2, e3, e4, e5, e6, e7)
 
     same_counts : (a b c : ℕ) → a ≡ length ms → b ≡ length (tables_of ms).component_detectors → c ≡ entries_of ms
-        → answer.Into (record { mechanisms = a; components = b; entries = c }) ≡ answer.Into (counts_of ms)
+        → ◌≡◌ {A = Result Counts Refusal} (Ok (record { mechanisms = a; components = b; entries = c })) (Ok (counts_of ms))
     same_counts a b c p q s = rw (p, q, s)
 
-    pub made : (x : Decomposed) (cs' out' : List ℕ) → Finished kept size starts counts others t.entries cs out x cs' out'
-        → Made (decompose (places_of room) (model_of n t)) old x (tables ps counts others cs' cds cos out')
+    pub made : (x : Counts) (cs' out' : List ℕ) → Finished kept size starts counts others t.entries cs out x cs' out'
+        → Made (decompose (places_of room) (model_of n t)) old (Ok x) (tables ps counts others cs' cds cos out')
     unfolding tables_written
     made x cs' out' f =
         let rest : size.mechanisms - kept.mechanisms ≡ length grows.new = omega (arith, longer, many, ap (λ (z : Size). z.mechanisms) g.sized) in
-        subst (λ (y : Split). Made y old x (tables ps counts others cs' cds cos out')) (sym g.is) (
-          f.answer ∙ same_counts _ _ _ (ap (λ (z : Size). z.mechanisms) g.sized)
+        subst (λ (y : Split). Made y old (Ok x) (tables ps counts others cs' cds cos out')) (sym g.is) (
+          ap Ok f.answer ∙ same_counts _ _ _ (ap (λ (z : Size). z.mechanisms) g.sized)
               (ap (λ (c : Counts). c.components) r.counted ∙ ap length (sym grows.component_detectors))
               (ap (λ (z : Size). z.entries) g.sized),
           same_tables ps counts others cs' cds cos out' probability_is counts_are others_are

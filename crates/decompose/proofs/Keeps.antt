@@ -1,10 +1,10 @@
 -- What adding p and appending keep is kept by decomposition.
+use Rattle.std.specs.Prelude.{Option, None, Some}
 use Prim.Native.Nat.{ℕ, zero, suc, ◌+◌, ◌<◌, ◌≤◌}
 use native.Mathlib.Omega.{arith}
 use mathlib.Core.Path.{◌≡◌, refl, sym, ◌∙◌, subst}
 use mathlib.Core.List.{List, [], ◌∷◌, ◌++◌}
 use mathlib.Core.Bool.{true, false, not, ◌&&◌}
-use mathlib.Core.Option.{Option, none, some}
 use lib.ListN.{length, get_or, length-append, get_or-append}
 use lib.Seq.{get_or-append_seam}
 use lib.Dec.{leb, ltb}
@@ -30,8 +30,8 @@ module _ (room : Places) (P : List ErrorMechanism → Type 0)
     (on-new : (p : Float) (s : Symptom) (a : List ErrorMechanism) → one_or_two s ≡ true → has_place room s a ≡ true → P a → P (a ++ (fresh p s ∷ []))) where
   one_component : (p : Float) (s : Symptom) (a : List ErrorMechanism) (o : Option ℕ) (b : List ErrorMechanism) → one_or_two s ≡ true → add_component room p s a o ≡ into b → P a → P b
   unfolding add_component
-  one_component p s a (some k) b t e h = let q : add_at p k a ≡ b = cc in subst P q (on-raise p k a h)
-  one_component p s a none b t e h = case-of (has_place room s a)
+  one_component p s a (Some k) b t e h = let q : add_at p k a ≡ b = cc in subst P q (on-raise p k a h)
+  one_component p s a None b t e h = case-of (has_place room s a)
       (λ u. let w = rw u at e in let q : a ++ (fresh p s ∷ []) ≡ b = cc in subst P q (on-new p s a t u h))
       (λ u. let w = rw u at e in none_in Limit b w)
 
@@ -55,8 +55,8 @@ module _ (room : Places) (P : List ErrorMechanism → Type 0)
   all_members p (c ∷ cs) a h = all_members p cs (add_at p c a) (on-raise p c a h)
 
   by_cover_lem : (p : Float) (i : ℕ) (a : List ErrorMechanism) (x : Option (List ℕ)) (b : List ErrorMechanism) → by_cover p i a x ≡ into b → P a → P b
-  by_cover_lem p i a none b e h = none_in (NoCover i) b e
-  by_cover_lem p i a (some cs) b e h = let q : add_all p cs a ≡ b = cc in subst P q (all_members p cs a h)
+  by_cover_lem p i a None b e h = none_in (NoCover i) b e
+  by_cover_lem p i a (Some cs) b e h = let q : add_all p cs a ≡ b = cc in subst P q (all_members p cs a h)
 
   one_mechanism : (ks : List Symptom) (i : ℕ) (m : ErrorMechanism) (a b : List ErrorMechanism) → split_one room ks i m a ≡ into b → P a → P b
   unfolding split_one

@@ -37,17 +37,6 @@ use Rattle.decompose.specs.Call.{room_of, counts_of}
 use Rattle.decompose.specs.Made.{Roomy}
 use Rattle.decompose.specs.Started.{Fitting, Started}
 
--- ---- numbers, over variables
-
-pub through : (a b c : ℕ) → a ≤ b → b ≤ c → a ≤ c
-through a b c p q = omega arith
-
-pub of_many : (n k : ℕ) → 17 * n ≤ k → n ≤ k
-of_many n k p = omega arith
-
-pub as_long : (a b c : ℕ) → a ≤ b → c ≡ b → a ≤ c
-as_long a b c p e = omega arith
-
 -- ---- the entries of a checked model are few
 
 few_listed : (D O : ℕ) (s : Symptom) → symptom_fits D O s ≡ true → length s.detectors + length s.observables ≤ 32
@@ -88,11 +77,11 @@ few_in D O m h =
 abbrev nothing : ErrorMechanism
 nothing = record { probability = nan; symptom = none_such; components = [] }
 
-module _ (D n : ℕ) (t : Tables) (f : Fitting D n t) where
-  abbrev here : ℕ → ErrorMechanism
-  here i = mechanism_at (head_of i t) (place_of i t) t.component_detectors t.component_observables t.entries
+abbrev here : Tables → ℕ → ErrorMechanism
+here t i = mechanism_at (head_of i t) (place_of i t) t.component_detectors t.component_observables t.entries
 
-  here_fits : (i : ℕ) → i < n → lists_fit D 128 (here i) ≡ true
+module _ {D n : ℕ} {t : Tables} (f : Fitting D n t) where
+  here_fits : (i : ℕ) → i < n → lists_fit D 128 (here t i) ≡ true
   here_fits i l = ap (lists_fit D 128) (sym (at i n t nothing l ∙ first_from i t)) ∙ f.lists i nothing l
 
   next_entries : (i : ℕ) → i < n → entries_in (suc i) t ≤ entries_in i t + 544
@@ -106,7 +95,7 @@ module _ (D n : ℕ) (t : Tables) (f : Fitting D n t) where
       let es = drop (entries_in i t) t.entries in
       omega (
         arith,
-        few_in D 128 (here i) (here_fits i l),
+        few_in D 128 (here t i) (here_fits i l),
         ap length (its_entries i t r),
         length-take-le ((d + o) + k) es (omega (arith, length-drop (entries_in i t) t.entries, inside.entries)),
         ap (λ (p : Place). p.entry) (place_next i t),
@@ -144,62 +133,56 @@ unfolding kept_tables
 few_kept n t h =
     rw (kept_tables_lem n t (reached_of n t h)) (kept_within n t.detector_counts t.entries (λ i. entries_in i t) (λ i. entries_le i (suc i) t (omega arith)))
 
-module _ (n : ℕ) (t was : Tables) (starts : List ℕ) (r : Counts) (after : Tables) (starts' : List ℕ) (c : CopiedKept n t was starts r after starts') (D : ℕ) (f : Fitting D n t) where
-  abbrev ks : List ErrorMechanism
-  ks = kept_of (model_of n t)
-
-  counts_are : after.detector_counts ≡ written (tables_of ks).detector_counts was.detector_counts
+module _ {n : ℕ} {t was : Tables} {starts : List ℕ} {r : Counts} {after : Tables} {starts' : List ℕ} {D : ℕ} (c : CopiedKept n t was starts r after starts') (f : Fitting D n t) where
+  counts_are : after.detector_counts ≡ written (tables_of (kept_of (model_of n t))).detector_counts was.detector_counts
   unfolding tables_written
   counts_are = ap (λ (u : Tables). u.detector_counts) c.tables
 
-  others_are : after.observable_counts ≡ written (tables_of ks).observable_counts was.observable_counts
+  others_are : after.observable_counts ≡ written (tables_of (kept_of (model_of n t))).observable_counts was.observable_counts
   unfolding tables_written
   others_are = ap (λ (u : Tables). u.observable_counts) c.tables
 
-  probability_is : after.probability ≡ written (tables_of ks).probability was.probability
+  probability_is : after.probability ≡ written (tables_of (kept_of (model_of n t))).probability was.probability
   unfolding tables_written
   probability_is = ap (λ (u : Tables). u.probability) c.tables
 
-  listed : r.entries ≡ entries_of ks
-  listed = c.entries ∙ sym (entries_are ks)
+  listed : r.entries ≡ entries_of (kept_of (model_of n t))
+  listed = c.entries ∙ sym (entries_are (kept_of (model_of n t)))
 
   pub kept_few : r.mechanisms ≤ n
-  kept_few = omega (arith, c.mechanisms, fewer D n t f)
+  kept_few = omega (arith, c.mechanisms, fewer f)
 
   pub kept_tabled : (d : ℕ) → d ≡ D → Detectors starts' after.detector_counts t.entries r.mechanisms d
   kept_tabled d w = rw (w, c.mechanisms)
       (kept_detectors n t f.holds D f.lists starts' after.detector_counts after.observable_counts starts was.detector_counts was.observable_counts
-      c.started counts_are others_are f.few (fewer D n t f))
+      c.started counts_are others_are f.few (fewer f))
 
-  module _ (before last first next : List ℕ) (w : length last ≡ D) (s : Started n t was starts r after starts' before last first next) where
-    abbrev size : Size
-    size = record { mechanisms = r.mechanisms; entries = r.entries }
-
-    size_is : size ≡ size_of ks
+  module _ {before last first next : List ℕ} (w : length last ≡ D) (s : Started n t was starts r after starts' before last first next) where
+    size_is : ◌≡◌ {A = Size} (record { mechanisms = r.mechanisms; entries = r.entries }) (size_of (kept_of (model_of n t)))
     size_is = same c.mechanisms listed
       where
         same : {a b a' b' : ℕ} → a ≡ a' → b ≡ b' → ◌≡◌ {A = Size} (record { mechanisms = a; entries = b }) (record { mechanisms = a'; entries = b' })
         same p q = rw (p, q)
 
-    pub state : Holds ks (columns_of after.probability after.detector_counts after.observable_counts) size t.entries starts' after.detector_counts after.observable_counts
+    pub state : Holds (kept_of (model_of n t)) (columns_of after.probability after.detector_counts after.observable_counts) (record { mechanisms = r.mechanisms; entries = r.entries }) t.entries starts' after.detector_counts after.observable_counts
         after.probability last before
-    state = subst (λ (z : Size). Holds ks (columns_of after.probability after.detector_counts after.observable_counts) z t.entries starts' after.detector_counts
+    state = subst (λ (z : Size). Holds (kept_of (model_of n t)) (columns_of after.probability after.detector_counts after.observable_counts) z t.entries starts' after.detector_counts
         after.observable_counts after.probability last before) (sym size_is)
         (start_holds n t f.holds D f.lists starts' after.detector_counts after.observable_counts starts was.detector_counts was.observable_counts
-        c.started counts_are others_are f.few (fewer D n t f) after.probability was.probability last before probability_is w
+        c.started counts_are others_are f.few (fewer f) after.probability was.probability last before probability_is w
         (subst (λ (k : ℕ). Chained (detectors_at starts' after.detector_counts t.entries) k last before) c.mechanisms s.lasts))
 
-    same_lists : (k : ℕ) → k < r.mechanisms → detectors_at starts' after.detector_counts t.entries k ≡ (get_or (symptoms_of ks) k none_such).detectors
+    same_lists : (k : ℕ) → k < r.mechanisms → detectors_at starts' after.detector_counts t.entries k ≡ (get_or (symptoms_of (kept_of (model_of n t))) k none_such).detectors
     same_lists k l =
         let own = symptom_is n t f.holds D f.lists starts' after.detector_counts after.observable_counts starts was.detector_counts was.observable_counts
         c.started counts_are others_are k (omega (arith, c.mechanisms)) nothing in
-        sym (ap (λ (z : Symptom). z.detectors) (get_or-map (λ (m : ErrorMechanism). m.symptom) ks k nothing ∙ own))
+        sym (ap (λ (z : Symptom). z.detectors) (get_or-map (λ (m : ErrorMechanism). m.symptom) (kept_of (model_of n t)) k nothing ∙ own))
 
-    pub ready : (numbers masks words0 words1 earlier : List ℕ) → n ≤ length next → n ≤ length numbers → n ≤ length masks → n ≤ length words0 → n ≤ length words1 → n ≤ length earlier
-        → Ready (symptoms_of ks) r.mechanisms first next numbers masks words0 words1 earlier
-    ready numbers masks words0 words1 earlier a b d e g h = record {
-      counted = length-map ks (λ (m : ErrorMechanism). m.symptom) ∙ sym c.mechanisms;
-      chains = chains_cong (detectors_at starts' after.detector_counts t.entries) (λ k. (get_or (symptoms_of ks) k none_such).detectors) r.mechanisms first next same_lists s.firsts;
+    pub ready : {numbers masks words0 words1 earlier : List ℕ} → n ≤ length next → n ≤ length numbers → n ≤ length masks → n ≤ length words0 → n ≤ length words1 → n ≤ length earlier
+        → Ready (symptoms_of (kept_of (model_of n t))) r.mechanisms first next numbers masks words0 words1 earlier
+    ready a b d e g h = record {
+      counted = length-map (kept_of (model_of n t)) (λ (m : ErrorMechanism). m.symptom) ∙ sym c.mechanisms;
+      chains = chains_cong (detectors_at starts' after.detector_counts t.entries) (λ k. (get_or (symptoms_of (kept_of (model_of n t))) k none_such).detectors) r.mechanisms first next same_lists s.firsts;
       linked = omega (arith, kept_few);
       numbers_hold = omega (arith, kept_few);
       masks_hold = omega (arith, kept_few);
@@ -208,14 +191,14 @@ module _ (n : ℕ) (t was : Tables) (starts : List ℕ) (r : Counts) (after : Ta
       earlier_hold = omega (arith, kept_few);
     }
 
-  counted : r ≡ counts_of ks
+  counted : r ≡ counts_of (kept_of (model_of n t))
   counted = same c.mechanisms c.components listed
     where
       same : {a b d a' b' d' : ℕ} → a ≡ a' → b ≡ b' → d ≡ d' → ◌≡◌ {A = Counts} (record { mechanisms = a; components = b; entries = d }) (record { mechanisms = a'; components = b'; entries = d' })
       same p q s = rw (p, q, s)
 
   -- the output tables keep their lengths
-  module _ (room : Size) (places : places_of room ≡ room_of was) (columns : columns_hold n was ≡ true) (lists : lists_hold (components_in n t) (entries_in n t) was ≡ true) where
+  module _ {room : Size} (places : places_of room ≡ room_of was) (columns : columns_hold n was ≡ true) (lists : lists_hold (components_in n t) (entries_in n t) was ≡ true) where
     many_places : room.mechanisms
         ≡ min (length was.probability) (min (length was.detector_counts) (min (length was.observable_counts) (length was.component_counts)))
     many_places = ap (λ (p : Places). p.mechanisms) places
@@ -223,7 +206,7 @@ module _ (n : ℕ) (t was : Tables) (starts : List ℕ) (r : Counts) (after : Ta
     all_entries : room.entries ≡ length was.entries
     all_entries = ap (λ (p : Places). p.entries) places
 
-    pub roomy : length after.component_counts ≡ length was.component_counts → length after.entries ≡ length was.entries → Roomy ks r room after.component_counts after.entries
+    pub roomy : length after.component_counts ≡ length was.component_counts → length after.entries ≡ length was.entries → Roomy (kept_of (model_of n t)) r room after.component_counts after.entries
     roomy a b =
         let wide = lengths n was columns in
         record {
@@ -235,19 +218,19 @@ module _ (n : ℕ) (t was : Tables) (starts : List ℕ) (r : Counts) (after : Ta
         }
 
     -- so that splitting may begin
-    pub begun : (before last first next numbers masks words0 words1 earlier : List ℕ) → (w : length last ≡ D) → Started n t was starts r after starts' before last first next
+    pub begun : {before last first next numbers masks words0 words1 earlier : List ℕ} → (w : length last ≡ D) → Started n t was starts r after starts' before last first next
         → length first ≡ length last → 17 * n ≤ length starts' → 17 * n ≤ length before
         → n ≤ length next → n ≤ length numbers → n ≤ length masks → n ≤ length words0 → n ≤ length words1 → n ≤ length earlier
         → length after.probability ≡ length was.probability → length after.detector_counts ≡ length was.detector_counts
         → length after.observable_counts ≡ length was.observable_counts
         → Begun n t r.mechanisms (record { mechanisms = r.mechanisms; entries = r.entries }) room first next starts' after.detector_counts after.observable_counts after.probability
         last before numbers masks words0 words1 earlier
-    begun before last first next numbers masks words0 words1 earlier w s wide hs hb h1 h2 h3 h4 h5 h6 lp ld lo = record {
+    begun w s wide hs hb h1 h2 h3 h4 h5 h6 lp ld lo = record {
       holds = f.holds;
       checked = λ k z l. rw w (f.lists k z l);
-      small = small D n t f;
-      state = state before last first next w s;
-      ready = ready before last first next w s numbers masks words0 words1 earlier h1 h2 h3 h4 h5 h6;
+      small = small f;
+      state = state w s;
+      ready = ready w s h1 h2 h3 h4 h5 h6;
       wide = wide;
       starts_hold = omega (arith, hs, kept_few);
       before_hold = omega (arith, hb, kept_few);

@@ -1,18 +1,15 @@
 -- What the call answers and leaves: docs/RULES.md, "Decomposition" and "Refusals".
-use Rattle.std.specs.Prelude.{ℕ, ◌*◌, min, ◌≡◌, List, [], ◌∷◌, Bool, not, ◌&&◌, length, leb}
+use Rattle.std.specs.Prelude.{Result, Ok, Err, ℕ, ◌*◌, min, ◌≡◌, List, [], ◌∷◌, Bool, not, ◌&&◌, length, leb}
+use Rattle.codes.specs.declared.Refusal.{Refusal}
 use Rattle.codes.specs.Codes.{Sheet, refusal_row, success_row}
 use Rattle.codes.specs.declared.Refusal.TheVariants.{Short}
-use Rattle.codes.specs.declared.Checked.{Checked}
-use Rattle.codes.specs.declared.Checked.TheVariants.{Accepted, Refused}
-use Rattle.codes.specs.Order.{refuse_if, and_then}
+use Rattle.codes.specs.Order.{Checked, refuse_if, and_then}
 use Rattle.codes.specs.Limits.{check_counts}
 use Rattle.dem.specs.Model.{ErrorMechanism, check_model}
 use Rattle.dem.specs.Tables.{Tables, model_of, components_in, entries_in, columns_hold, lists_hold, tables_hold, tables_of, tables_written, tables_zero}
 use Rattle.dem.specs.Decompose.{Places, Split, into, refused, entries_of, decompose}
 use Rattle.split_model.specs.declared.Counts.{Counts}
 use Rattle.decompose.specs.declared.Scratch.{Scratch}
-use Rattle.decompose.specs.declared.Decomposed.{Decomposed}
-use Rattle.decompose.specs.declared.Decomposed.TheVariants as decomposed
 
 -- the lent places
 abbrev pub room_of : Tables → Places
@@ -39,8 +36,8 @@ checked D O n t was s =
     and_then (check_counts D O n) (and_then (refuse_if (not (tables_hold n t && long D n t was s)) Short) (check_model D O 0 (model_of n t)))
 
 abbrev pub outcome_of : Checked → Split → Split
-outcome_of (Refused r) x = refused r
-outcome_of Accepted x = x
+outcome_of (Err r) x = refused r
+outcome_of (Ok tt) x = x
 
 -- what the call comes to
 unfoldable pub outcome : ℕ → ℕ → ℕ → Tables → Tables → Scratch → Split
@@ -52,9 +49,9 @@ abbrev pub counts_of : List ErrorMechanism → Counts
 counts_of ms = record { mechanisms = length ms; components = length (tables_of ms).component_detectors; entries = entries_of ms }
 
 -- the sheet's number and values for each case of the answer: mechanisms, components, entries
-abbrev pub sheet_of : Decomposed → Sheet
-sheet_of (decomposed.Into n) = success_row (n.mechanisms ∷ n.components ∷ n.entries ∷ [])
-sheet_of (decomposed.Refused r) = refusal_row r
+abbrev pub sheet_of : Result Counts Refusal → Sheet
+sheet_of (Ok n) = success_row (n.mechanisms ∷ n.components ∷ n.entries ∷ [])
+sheet_of (Err r) = refusal_row r
 
 -- and for what the call comes to
 abbrev pub call_row : Split → Sheet
@@ -62,9 +59,9 @@ call_row (into ms) = success_row (length ms ∷ length (tables_of ms).component_
 call_row (refused r) = refusal_row r
 
 -- the answer: how much the tables hold, or the refusal
-abbrev pub answer_of : Split → Decomposed
-answer_of (into ms) = decomposed.Into (counts_of ms)
-answer_of (refused r) = decomposed.Refused r
+abbrev pub answer_of : Split → Result Counts Refusal
+answer_of (into ms) = Ok (counts_of ms)
+answer_of (refused r) = Err r
 
 -- the output tables that it leaves: the model, then the old contents; after a refusal zero, whole
 abbrev pub tables_left : Split → Tables → Tables
@@ -72,7 +69,7 @@ tables_left (into ms) was = tables_written ms was
 tables_left (refused r) was = tables_zero was
 
 -- the answer and every output table; the scratch slices may hold anything
-pub record Decomposes (x : Split) (r : Decomposed) (was after : Tables) : Type 0 where
+pub record Decomposes (x : Split) (r : Result Counts Refusal) (was after : Tables) : Type 0 where
   pub sheet : sheet_of r ≡ call_row x
   pub answer : r ≡ answer_of x
   pub tables : after ≡ tables_left x was

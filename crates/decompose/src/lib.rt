@@ -13,15 +13,7 @@ ghost use Rattle.decompose.specs.Started.{Startable, Started, Decomposable};
 
 use codes::Refusal;
 use split_model::Counts;
-use splits::Step;
 use suggested::Size;
-
-// What the call comes to: the mechanisms, components and entries of the new model, or the refusal.
-#[derive(Clone, Copy)]
-pub enum Decomposed {
-    Into(Counts),
-    Refused(Refusal),
-}
 
 // The lengths of the scratch slices.
 #[derive(Clone, Copy)]
@@ -55,14 +47,11 @@ fn append_lists(
     ensures { out.new ≡ written (take at out.old ++ symptom_entries (lists_from starts.now detector_counts.now observable_counts.now entries.now first end)) out.old }
 {
     let mut to = at;
-    let mut k = first;
-    while k < end {
+    for k in first..end {
         let start = starts[k] as usize;
         let size = detector_counts[k] as usize + observable_counts[k] as usize;
-        let stop = start + size;
-        tables::copy_words(&entries[start..stop], out, to);
+        tables::copy_to(&entries[start..start + size], out, to);
         to += size;
-        k += 1;
     }
 }
 
@@ -76,13 +65,13 @@ fn finish(
     entries: &[u32],
     component_counts: &mut [u8],
     out: &mut [u32],
-) -> Decomposed
+) -> Counts
     requires { Appendable starts.now detector_counts.now observable_counts.now entries.now kept.mechanisms size.mechanisms kept.entries out.old × (size.mechanisms ≤ length component_counts.old) }
     ensures { Finished kept size starts.now detector_counts.now observable_counts.now entries.now component_counts.old out.old result component_counts.new out.new }
 {
     let first = kept.mechanisms;
     let end = size.mechanisms;
-    tables::fill_u8(&mut component_counts[first..end], 0);
+    component_counts[first..end].fill(0);
     append_lists(
         first,
         end,
@@ -93,11 +82,11 @@ fn finish(
         entries,
         out,
     );
-    Decomposed::Into(Counts {
+    Counts {
         mechanisms: end,
         components: kept.components,
         entries: size.entries,
-    })
+    }
 }
 
 // Each larger mechanism is split over the kept ones, and what was appended is written. Long for its parameters, one a line.
@@ -127,7 +116,7 @@ fn split_kept(
     words0: &mut [u64],
     words1: &mut [u64],
     earlier: &mut [u32],
-) -> Decomposed
+) -> Result<Counts, Refusal>
     requires { Begun mechanisms (tables probability.now detector_counts.now observable_counts.now component_counts.now component_detectors.now component_observables.now entries.now) kept.mechanisms (record { mechanisms = kept.mechanisms; entries = kept.entries }) room first_of.now next_of.now starts.old out_detector_counts.old out_observable_counts.old out_probability.old last_of.old before.old numbers.old masks.old words0.old words1.old earlier.old × Roomy (kept_of (model_of mechanisms (tables probability.now detector_counts.now observable_counts.now component_counts.now component_detectors.now component_observables.now entries.now))) kept room out_component_counts.old out_entries.old }
     ensures { (was : Tables) (cds cos : List ℕ) → tables out_probability.old out_detector_counts.old out_observable_counts.old out_component_counts.old cds cos out_entries.old ≡ tables_written (kept_of (model_of mechanisms (tables probability.now detector_counts.now observable_counts.now component_counts.now component_detectors.now component_observables.now entries.now))) was → Made (decompose (places_of room) (model_of mechanisms (tables probability.now detector_counts.now observable_counts.now component_counts.now component_detectors.now component_observables.now entries.now))) was result (tables out_probability.new out_detector_counts.new out_observable_counts.new out_component_counts.new cds cos out_entries.new) }
 {
@@ -135,7 +124,7 @@ fn split_kept(
         mechanisms: kept.mechanisms,
         entries: kept.entries,
     };
-    let step = split_model::split_all(
+    let grown = split_model::split_all(
         mechanisms,
         kept.mechanisms,
         size,
@@ -160,20 +149,17 @@ fn split_kept(
         words0,
         words1,
         earlier,
-    );
-    match step {
-        Step::Refused(r) => Decomposed::Refused(r),
-        Step::Grown(grown) => finish(
-            kept,
-            grown,
-            starts,
-            out_detector_counts,
-            out_observable_counts,
-            entries,
-            out_component_counts,
-            out_entries,
-        ),
-    }
+    )?;
+    Ok(finish(
+        kept,
+        grown,
+        starts,
+        out_detector_counts,
+        out_observable_counts,
+        entries,
+        out_component_counts,
+        out_entries,
+    ))
 }
 
 // ---- a checked model
@@ -269,7 +255,7 @@ pub fn decompose_checked(
     words0: &mut [u64],
     words1: &mut [u64],
     earlier: &mut [u32],
-) -> Decomposed
+) -> Result<Counts, Refusal>
     requires { Decomposable mechanisms (tables probability.now detector_counts.now observable_counts.now component_counts.now component_detectors.now component_observables.now entries.now) (tables out_probability.old out_detector_counts.old out_observable_counts.old out_component_counts.old out_component_detectors.old out_component_observables.old out_entries.old) room starts.old before.old last_of.old first_of.old next_of.old numbers.old masks.old words0.old words1.old earlier.old }
     ensures { Made (decompose (places_of room) (model_of mechanisms (tables probability.now detector_counts.now observable_counts.now component_counts.now component_detectors.now component_observables.now entries.now))) (tables out_probability.old out_detector_counts.old out_observable_counts.old out_component_counts.old out_component_detectors.old out_component_observables.old out_entries.old) result (tables out_probability.new out_detector_counts.new out_observable_counts.new out_component_counts.new out_component_detectors.new out_component_observables.new out_entries.new) }
 {

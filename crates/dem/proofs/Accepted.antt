@@ -1,4 +1,5 @@
 -- What an accepted check tells.
+use Rattle.std.specs.Prelude.{Ok}
 use Prim.Native.Nat.{ℕ, zero, suc, ◌<◌, ◌≤◌}
 use native.Mathlib.Nat.{not-suc-le-zero, le_of_suc-le-suc}
 use mathlib.Core.Path.{◌≡◌}
@@ -9,7 +10,6 @@ use lib.ListN.{length, get_or}
 use borrow.Author.Tests.{leb-true, ltb-true}
 use Rattle.lists.proofs.Truth.{and_left, and_right}
 use Rattle.codes.specs.declared.Refusal.TheVariants.{Probability, Index}
-use Rattle.codes.specs.declared.Checked.TheVariants.{Accepted}
 use Rattle.codes.specs.Order.{refuse_if}
 use Rattle.codes.proofs.Checks.{then_accepted, unless_accepted}
 use Rattle.codes.specs.Limits.{max_entries}
@@ -66,7 +66,7 @@ symptoms_fit_lem D O (s ∷ ss) h (suc k) l = symptoms_fit_lem D O ss (and_right
 
 -- ---- mechanisms
 
-pub mechanism_fits : (D O i : ℕ) (m : ErrorMechanism) → check_mechanism D O i m ≡ Accepted → MechanismFits D O m
+pub mechanism_fits : (D O i : ℕ) (m : ErrorMechanism) → check_mechanism D O i m ≡ Ok tt → MechanismFits D O m
 unfolding check_mechanism lists_fit
 mechanism_fits D O i m h =
     let l = lists_fit D O m in
@@ -85,7 +85,7 @@ mechanism_fits D O i m h =
       components = symptoms_fit_lem D O m.components (and_right few theirs q);
     }
 
-pub model_fits : (D O i : ℕ) (ms : List ErrorMechanism) → check_model D O i ms ≡ Accepted → (k : ℕ) (z : ErrorMechanism) → k < length ms → MechanismFits D O (get_or ms k z)
+pub model_fits : (D O i : ℕ) (ms : List ErrorMechanism) → check_model D O i ms ≡ Ok tt → (k : ℕ) (z : ErrorMechanism) → k < length ms → MechanismFits D O (get_or ms k z)
 unfolding check_model
 model_fits D O i [] h k z l = absurd (not-suc-le-zero l)
 model_fits D O i (m ∷ ms) h zero z l = mechanism_fits D O i m (then_accepted (check_mechanism D O i m) (check_model D O (suc i) ms) h).0

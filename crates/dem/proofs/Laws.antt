@@ -1,4 +1,5 @@
 -- The laws of models in tables.
+use Rattle.std.specs.Prelude.{Ok}
 use Prim.Native.Nat.{ℕ, zero, suc, ◌+◌, ◌-◌, ◌<◌, ◌≤◌}
 use native.Mathlib.Nat.{not-suc-le-zero, le_of_suc-le-suc}
 use native.Mathlib.Omega.{arith}
@@ -7,7 +8,6 @@ use mathlib.Core.List.{◌++◌}
 use mathlib.Core.Bool.{true, not}
 use lib.ListN.{length, get_or}
 use Rattle.codes.specs.declared.Refusal.TheVariants.{Short}
-use Rattle.codes.specs.declared.Checked.TheVariants.{Accepted}
 use Rattle.codes.specs.Order.{refuse_if, and_then}
 use Rattle.codes.specs.Limits.{max_mechanisms, check_counts}
 use Rattle.dem.specs.Model.{ErrorMechanism, check_model}
@@ -65,7 +65,7 @@ counted n t few h =
       component_observables = omega (arith, e, w.component_observables);
     }
 
-pub checked : (D O n : ℕ) (t : Tables) → check_all D O n t ≡ Accepted → ModelFits D O n t
+pub checked : (D O n : ℕ) (t : Tables) → check_all D O n t ≡ Ok tt → ModelFits D O n t
 checked D O n t h =
     let (limits, p) = then_accepted (check_counts D O n) (and_then (refuse_if (not (tables_hold n t)) Short) (check_model D O 0 (model_of n t))) h in
     let (held, model) = then_accepted (refuse_if (not (tables_hold n t)) Short) (check_model D O 0 (model_of n t)) p in

@@ -1,31 +1,27 @@
 -- The laws of positions.
+use Rattle.std.specs.Prelude.{Ok}
 use Prim.Native.Nat.{ℕ, zero, suc, ◌+◌, ◌-◌, ◌<◌, ◌≤◌}
 use native.Mathlib.Nat.{add-zero, zero-add, suc-add}
 use native.Mathlib.Numerals.{add-one}
 use native.Mathlib.Omega.{arith}
 use mathlib.Core.Path.{◌≡◌, refl, sym, ap, ap₂, ◌∙◌}
 use mathlib.Core.List.{List, [], ◌∷◌, ◌++◌}
-use mathlib.Core.Bool.{Bool, true, ◌&&◌}
+use mathlib.Core.Bool.{true, ◌&&◌}
 use lib.ListN.{length, get_or, take, drop}
 use lib.Seq.{drop-nil, drop-drop}
 use lib.Ieee.{nan}
 use lib.Dec.{leb}
 use borrow.Author.Tests.{leb-true, le-leb}
-use Rattle.lists.proofs.Truth.{and_left, and_right}
+use Rattle.std.proofs.lemmas.Bool.{and_parts}
 use Rattle.dem.specs.declared.Mechanism.{Mechanism}
 use Rattle.dem.specs.declared.Place.{Place}
-use Rattle.codes.specs.declared.Checked.{Checked}
-use Rattle.codes.specs.declared.Checked.TheVariants.{Accepted}
-use Rattle.codes.specs.Order.{and_then}
+use Rattle.codes.specs.Order.{Checked, and_then}
 use Rattle.dem.specs.Model.{ErrorMechanism, check_mechanism, check_model}
 use Rattle.dem.specs.Tables.{Tables, first_of, first_entries, rest_of, model_of, components_in, entries_in, columns_hold, lists_hold, tables_hold}
 use Rattle.dem.specs.Positions.{tables, head_of, tables_at, mechanism_at, place_past, Inside, place_of, tables_from, columns, total}
 use Rattle.dem.specs.Laws.{Reached}
 use Rattle.dem.proofs.Checks.{first_of_lem}
 use Rattle.dem.proofs.Sums.{total_first, total_none, total_add, entries_total}
-
-and_parts : (a b : Bool) → (a && b) ≡ true → (a ≡ true) × (b ≡ true)
-and_parts a b h = (and_left a b h, and_right a b h)
 
 -- the place past a mechanism, by the sums of its components' counts
 pub past_sums : (h : Mechanism) (p : Place) (cds cos : List ℕ)
@@ -174,6 +170,11 @@ pub past_inside : (h : Mechanism) (p : Place) (cds cos es : List ℕ) → Inside
 unfolding place_past first_entries
 past_inside h p cds cos es w = omega (arith, w.entries)
 
+-- the same of the head and the place that a loop has come to
+pub inside_here : (i n : ℕ) (t : Tables) (h : Mechanism) (p : Place) → i < n → tables_hold n t ≡ true → h ≡ head_of i t → p ≡ place_of i t
+    → Inside h p t.component_detectors t.component_observables t.entries
+inside_here i n t h p l held eh ep = rw (eh, ep) (inside_of i n t l (reached_of n t held))
+
 -- ---- the check, from mechanism i on
 
 pub model_next : (i n : ℕ) (t : Tables) → i < n
@@ -196,7 +197,7 @@ check_next D O i n t h = ap (check_model D O i) (model_next i n t h) ∙ rw (add
 pub check_first : (D O n : ℕ) (t : Tables) → check_model D O 0 (model_of (n - 0) (tables_from 0 t)) ≡ check_model D O 0 (model_of n t)
 check_first D O n t = ap₂ (λ (k : ℕ) (u : Tables). check_model D O 0 (model_of k u)) (omega arith) (from_zero t)
 
-pub check_last : (D O i n : ℕ) (t : Tables) → n ≤ i → check_model D O i (model_of (n - i) (tables_from i t)) ≡ Accepted
+pub check_last : (D O i n : ℕ) (t : Tables) → n ≤ i → check_model D O i (model_of (n - i) (tables_from i t)) ≡ Ok tt
 unfolding check_model model_of
 check_last D O i n t h = let e : n - i ≡ 0 = omega arith in rw e
 

@@ -1,27 +1,31 @@
 -- Sums of lists, and of their parts.
-use Prim.Native.Nat.{ℕ, zero, suc, ◌+◌, ◌<◌, ◌≤◌}
-use native.Mathlib.Nat.{zero-add, add_assoc}
-use native.Mathlib.Numerals.{add-one}
+use Prim.Native.Nat.{ℕ, zero, suc, ◌+◌, ◌≤◌}
 use native.Mathlib.Omega.{arith}
 use mathlib.Core.Path.{◌≡◌, refl, sym, ap, ◌∙◌}
 use mathlib.Core.List.{List, [], ◌∷◌, ◌++◌}
-use lib.ListN.{length, get_or, take, drop, drop_of_length-le}
-use lib.Seq.{drop-cons, take-nil, take-add}
+use lib.ListN.{get_or, take, drop}
+use lib.Seq.{take-nil, take-add}
 use Rattle.dem.specs.Tables.{component_entries}
-use Rattle.dem.specs.Positions.{total}
+use Rattle.dem.specs.Positions.{total, Summed}
+use Rattle.std.specs.Prelude.{sum}
+use Rattle.std.proofs.Common.{Fits, w8}
+use Rattle.std.proofs.lemmas.List.Sums.{sum_by-append, sum_by-le}
+use Rattle.std.proofs.lemmas.List.Recursion.{is_sum_by}
+use Rattle.std.proofs.lemmas.List.Elements.{All-from_get_or}
 
-pub total_turn : (xs : List ℕ) (i : ℕ) → i < length xs → total (drop i xs) ≡ get_or xs i 0 + total (drop (i + 1) xs)
+pub total_sum : (xs : List ℕ) → total xs ≡ sum xs
 unfolding total
-total_turn xs i h = rw (add-one i, drop-cons xs i 0 h)
-
-pub total_end : (xs : List ℕ) (i : ℕ) → length xs ≤ i → total (drop i xs) ≡ 0
-unfolding total
-total_end xs i h = rw (drop_of_length-le xs h)
+total_sum = is_sum_by total (λ x. x) refl (λ _ _. refl)
 
 total_append : (xs ys : List ℕ) → total (xs ++ ys) ≡ total xs + total ys
-unfolding total
-total_append [] ys = sym (zero-add (total ys))
-total_append (x ∷ xs) ys = rw (total_append xs ys) (sym (add_assoc x (total xs) (total ys)))
+total_append xs ys = rw (total_sum (xs ++ ys), total_sum xs, total_sum ys) (sum_by-append (λ x. x) xs ys)
+
+-- what an iterator's sum of bytes is
+pub summed_bytes : (xs : List ℕ) (s : ℕ) → s ≡ sum xs → ((i : ℕ) → Fits w8 (get_or xs i 0)) → Summed xs s
+summed_bytes xs s e h = record {
+  is = e ∙ sym (total_sum xs);
+  small = omega (arith, e, sum_by-le (λ x. x) 255 xs (All-from_get_or (λ x. x ≤ 255) xs 0 (λ i _. omega (arith, h i))));
+}
 
 -- the first m, and the next n
 pub total_add : (m n : ℕ) (xs : List ℕ) → total (take (m + n) xs) ≡ total (take m xs) + total (take n (drop m xs))

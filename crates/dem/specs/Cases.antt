@@ -1,12 +1,10 @@
 -- Cases of decomposition, by computation.
-use Rattle.std.specs.Prelude.{ℕ, ◌≡◌, refl, List, [], ◌∷◌, true, false, pos, Float}
-use Rattle.std.proofs.Math.Option.{none, some}
+use Rattle.std.specs.Prelude.{None, Some, Err, ℕ, ◌≡◌, refl, List, [], ◌∷◌, true, false, pos, Float}
 use Rattle.std.specs.Float.Ieee as Ieee
 use Rattle.std.specs.Float.{binary64, fin, nan}
 use Rattle.codes.specs.declared.Refusal.TheVariants.{Limit, Probability, Index, NoCover}
-use Rattle.codes.specs.declared.Checked.TheVariants.{Accepted, Refused}
 use Rattle.dem.specs.Model.{Symptom, ErrorMechanism, check_model}
-use Rattle.dem.specs.Tables.{Tables, model_of, tables_of, tables_hold}
+use Rattle.dem.specs.Tables.{model_of, tables_of}
 use Rattle.dem.specs.Cover.{first_cover}
 use Rattle.dem.specs.Decompose.{Places, plus, into, refused, decompose}
 
@@ -41,9 +39,9 @@ pub record Cases : Type 0 where
   -- a kept minus zero with zero added becomes plus zero
   pub minus_zero : plus (fin true 0 (pos 0)) w0 ≡ w0
   -- the first cover, and none by observables that do not match
-  pub covers : first_cover (of (0 ∷ []) [] ∷ of (1 ∷ 2 ∷ []) (0 ∷ []) ∷ of (2 ∷ []) (0 ∷ []) ∷ of (1 ∷ []) [] ∷ []) (of (0 ∷ 1 ∷ 2 ∷ []) (0 ∷ [])) ≡ some (0 ∷ 1 ∷ [])
-  pub later_cover : first_cover (of (0 ∷ []) [] ∷ of (1 ∷ 2 ∷ []) [] ∷ of (2 ∷ []) (0 ∷ []) ∷ of (1 ∷ []) [] ∷ []) (of (0 ∷ 1 ∷ 2 ∷ []) (0 ∷ [])) ≡ some (0 ∷ 2 ∷ 3 ∷ [])
-  pub no_cover : first_cover (of (0 ∷ []) [] ∷ of (1 ∷ 2 ∷ []) [] ∷ []) (of (0 ∷ 1 ∷ 2 ∷ []) (0 ∷ [])) ≡ none
+  pub covers : first_cover (of (0 ∷ []) [] ∷ of (1 ∷ 2 ∷ []) (0 ∷ []) ∷ of (2 ∷ []) (0 ∷ []) ∷ of (1 ∷ []) [] ∷ []) (of (0 ∷ 1 ∷ 2 ∷ []) (0 ∷ [])) ≡ Some (0 ∷ 1 ∷ [])
+  pub later_cover : first_cover (of (0 ∷ []) [] ∷ of (1 ∷ 2 ∷ []) [] ∷ of (2 ∷ []) (0 ∷ []) ∷ of (1 ∷ []) [] ∷ []) (of (0 ∷ 1 ∷ 2 ∷ []) (0 ∷ [])) ≡ Some (0 ∷ 2 ∷ 3 ∷ [])
+  pub no_cover : first_cover (of (0 ∷ []) [] ∷ of (1 ∷ 2 ∷ []) [] ∷ []) (of (0 ∷ 1 ∷ 2 ∷ []) (0 ∷ [])) ≡ None
   -- a suggestion goes to the last of two duplicates
   pub last_duplicate : decompose ample (plain eighth (0 ∷ []) [] ∷ plain eighth (0 ∷ []) [] ∷ split quarter (0 ∷ 1 ∷ 2 ∷ []) [] (of (0 ∷ []) [] ∷ []) ∷ [])
       ≡ into (plain eighth (0 ∷ []) [] ∷ plain (plus eighth quarter) (0 ∷ []) [] ∷ [])
@@ -58,12 +56,12 @@ pub record Cases : Type 0 where
   pub no_place : decompose (record { mechanisms = 1; entries = 100 }) (split quarter (0 ∷ 1 ∷ 2 ∷ []) [] (of (0 ∷ []) [] ∷ of (1 ∷ 2 ∷ []) [] ∷ []) ∷ []) ≡ refused Limit
   pub six_first : decompose (record { mechanisms = 1; entries = 100 }) (plain quarter (0 ∷ 1 ∷ 2 ∷ []) [] ∷ split quarter (0 ∷ 1 ∷ 2 ∷ []) [] (of (0 ∷ []) [] ∷ of (1 ∷ 2 ∷ []) [] ∷ []) ∷ []) ≡ refused (NoCover 0)
   -- the model check: lists, then probability
-  pub not_ascending : check_model 3 1 0 (plain quarter (1 ∷ 1 ∷ []) [] ∷ []) ≡ Refused (Index 0)
-  pub past_observables : check_model 3 1 0 (plain quarter (1 ∷ []) (0 ∷ []) ∷ plain quarter (1 ∷ []) (1 ∷ []) ∷ []) ≡ Refused (Index 1)
-  pub component_list : check_model 3 1 0 (split quarter (1 ∷ []) [] (of (3 ∷ []) [] ∷ []) ∷ []) ≡ Refused (Index 0)
-  pub five_before_four : check_model 3 1 0 (plain nan (1 ∷ 1 ∷ []) [] ∷ []) ≡ Refused (Index 0)
-  pub not_a_number : check_model 3 1 0 (plain nan (1 ∷ []) [] ∷ []) ≡ Refused (Probability 0)
-  pub certain : check_model 3 1 0 (plain (fin false 1 (pos 0)) (1 ∷ []) [] ∷ []) ≡ Refused (Probability 0)
+  pub not_ascending : check_model 3 1 0 (plain quarter (1 ∷ 1 ∷ []) [] ∷ []) ≡ Err (Index 0)
+  pub past_observables : check_model 3 1 0 (plain quarter (1 ∷ []) (0 ∷ []) ∷ plain quarter (1 ∷ []) (1 ∷ []) ∷ []) ≡ Err (Index 1)
+  pub component_list : check_model 3 1 0 (split quarter (1 ∷ []) [] (of (3 ∷ []) [] ∷ []) ∷ []) ≡ Err (Index 0)
+  pub five_before_four : check_model 3 1 0 (plain nan (1 ∷ 1 ∷ []) [] ∷ []) ≡ Err (Index 0)
+  pub not_a_number : check_model 3 1 0 (plain nan (1 ∷ []) [] ∷ []) ≡ Err (Probability 0)
+  pub certain : check_model 3 1 0 (plain (fin false 1 (pos 0)) (1 ∷ []) [] ∷ []) ≡ Err (Probability 0)
   -- tables written and read back
   pub read_back : model_of 2 (tables_of (split quarter (0 ∷ 2 ∷ []) (0 ∷ []) (of (0 ∷ []) [] ∷ of (2 ∷ []) (0 ∷ []) ∷ []) ∷ plain eighth (1 ∷ []) [] ∷ []))
       ≡ split quarter (0 ∷ 2 ∷ []) (0 ∷ []) (of (0 ∷ []) [] ∷ of (2 ∷ []) (0 ∷ []) ∷ []) ∷ plain eighth (1 ∷ []) [] ∷ []

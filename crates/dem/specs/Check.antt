@@ -1,8 +1,7 @@
 -- The check of a model in tables.
 use Rattle.std.specs.Prelude.{ℕ, not}
 use Rattle.codes.specs.declared.Refusal.TheVariants.{Short}
-use Rattle.codes.specs.declared.Checked.{Checked}
-use Rattle.codes.specs.Order.{refuse_if, and_then}
+use Rattle.codes.specs.Order.{Checked, refuse_if, and_then}
 use Rattle.codes.specs.Limits.{check_counts}
 use Rattle.dem.specs.Model.{check_model}
 use Rattle.dem.specs.Tables.{Tables, model_of, tables_hold}

@@ -1,6 +1,5 @@
 -- The first cover: docs/RULES.md, "Decomposition".
-use Rattle.std.specs.Prelude.{ℕ, suc, ◌<◌, ◌≤◌, ◌≡◌, List, [], ◌∷◌, ◌++◌, Bool, true, false, not, ◌&&◌, ◌⊎◌, length, get_or}
-use Rattle.std.proofs.Math.Option.{Option, none, some}
+use Rattle.std.specs.Prelude.{Option, None, Some, ℕ, suc, ◌<◌, ◌≤◌, ◌≡◌, List, [], ◌∷◌, ◌++◌, Bool, true, false, not, ◌&&◌, ◌⊎◌, length, get_or}
 use Rattle.lists.specs.Lists.{filter, any, odd, member}
 use Rattle.dem.specs.Model.{Symptom}
 
@@ -33,14 +32,14 @@ chosen_fits left s = not (is_empty s.detectors) && within left s.detectors
 
 -- the mechanism `at` in front of a cover of what it leaves, where there is one; else what is found without it
 abbrev pub choose : Bool → ℕ → Option (List ℕ) → Option (List ℕ) → Option (List ℕ)
-choose true at (some cs) r = some (at ∷ cs)
-choose true at none r = r
+choose true at (Some cs) r = Some (at ∷ cs)
+choose true at None r = r
 choose false at t r = r
 
 -- nothing is left to cover, and no observable is left to match
 abbrev pub closes : Bool → Option (List ℕ)
-closes true = some []
-closes false = none
+closes true = Some []
+closes false = None
 
 -- of the kept mechanisms from number `at` on, the first cover of the detectors and observables left
 unfoldable pub cover_from : List Symptom → ℕ → List ℕ → List ℕ → Option (List ℕ)
@@ -88,5 +87,5 @@ module _ (kept : List Symptom) (s : Symptom) where
 
   -- what the first cover is: a cover before all others, or there is none
   abbrev pub IsFirst : Option (List ℕ) → Type 0
-  IsFirst none = (ds : List ℕ) → IsCover ds → ⊥
-  IsFirst (some cs) = IsCover cs × ((ds : List ℕ) → IsCover ds → Before cs ds)
+  IsFirst None = (ds : List ℕ) → IsCover ds → ⊥
+  IsFirst (Some cs) = IsCover cs × ((ds : List ℕ) → IsCover ds → Before cs ds)

@@ -1,6 +1,5 @@
 -- The decomposed model: docs/RULES.md, "Decomposition".
-use Rattle.std.specs.Prelude.{ℕ, zero, suc, ◌+◌, List, [], ◌∷◌, ◌++◌, map, Bool, true, false, cond, not, ◌&&◌, ◌||◌, length, get_or, set, eqb, leb, ltb, pos, Float}
-use Rattle.std.proofs.Math.Option.{Option, none, some}
+use Rattle.std.specs.Prelude.{Option, None, Some, ℕ, zero, suc, ◌+◌, List, [], ◌∷◌, ◌++◌, map, Bool, true, false, cond, not, ◌&&◌, length, eqb, leb, ltb, pos, Float}
 use Rattle.std.specs.Float.Ieee as Ieee
 use Rattle.std.specs.Float.{binary64, fin}
 use Rattle.lists.specs.Lists.{filter, any}
@@ -50,14 +49,14 @@ unfolding same_list
 same_symptom s r = same_list s.detectors r.detectors && same_list s.observables r.observables
 
 abbrev pub or_else : Option ℕ → Bool → ℕ → Option ℕ
-or_else (some k) b at = some k
-or_else none true at = some at
-or_else none false at = none
+or_else (Some k) b at = Some k
+or_else None true at = Some at
+or_else None false at = None
 
 -- "the LAST mechanism with equal lists", of those from number `at` on
 unfoldable pub last_equal : Symptom → ℕ → List ErrorMechanism → Option ℕ
 unfolding same_symptom
-last_equal s at [] = none
+last_equal s at [] = None
 last_equal s at (m ∷ ms) = or_else (last_equal s (suc at) ms) (same_symptom m.symptom s) at
 
 -- the lent places: for mechanisms, and for list entries
@@ -85,8 +84,8 @@ pub data Split : Type 0 where
 -- p is added to the last equal mechanism, or to a new one appended at probability 0
 unfoldable pub add_component : Places → Float → Symptom → List ErrorMechanism → Option ℕ → Split
 unfolding add_at has_place plus
-add_component room p s ms (some k) = into (add_at p k ms)
-add_component room p s ms none =
+add_component room p s ms (Some k) = into (add_at p k ms)
+add_component room p s ms None =
     cond (has_place room s ms)
     (into (ms ++ (record { probability = plus (fin false 0 (pos 0)) p; symptom = s; components = [] } ∷ [])))
     (refused Limit)
@@ -117,8 +116,8 @@ is_suggested [] = false
 is_suggested (s ∷ ss) = not (any (λ r. not (one_or_two r)) (s ∷ ss))
 
 abbrev pub by_cover : Float → ℕ → List ErrorMechanism → Option (List ℕ) → Split
-by_cover p i ms (some cs) = into (add_all p cs ms)
-by_cover p i ms none = refused (NoCover i)
+by_cover p i ms (Some cs) = into (add_all p cs ms)
+by_cover p i ms None = refused (NoCover i)
 
 -- one of the two ways; kept are the mechanisms that a cover may choose
 unfoldable pub split_one : Places → List Symptom → ℕ → ErrorMechanism → List ErrorMechanism → Split

@@ -1,6 +1,5 @@
 -- What holds of models in tables; proofs/Laws.antt proves it.
-use Rattle.std.specs.Prelude.{ℕ, suc, ◌+◌, ◌-◌, ◌<◌, ◌≤◌, ◌≡◌, List, ◌++◌, true, length, get_or}
-use Rattle.codes.specs.declared.Checked.TheVariants.{Accepted}
+use Rattle.std.specs.Prelude.{Ok, ℕ, suc, ◌+◌, ◌-◌, ◌<◌, ◌≤◌, ◌≡◌, List, ◌++◌, true, length, get_or}
 use Rattle.codes.specs.Limits.{max_detectors, max_observables, max_mechanisms, max_entries}
 use Rattle.dem.specs.Model.{Symptom, ErrorMechanism, lists_fit, probability_fits, check_model}
 use Rattle.dem.specs.Tables.{Tables, first_of, model_of, tables_hold, tables_of, tables_written}
@@ -77,5 +76,5 @@ pub record Laws : Type 0 where
   pub place_alone : (n : ℕ) (t : Tables)
       → place_of n (columns t.detector_counts t.observable_counts t.component_counts t.component_detectors t.component_observables) ≡ place_of n t
   -- of an accepted model every mechanism fits
-  pub accepted : (D O i : ℕ) (ms : List ErrorMechanism) → check_model D O i ms ≡ Accepted → (k : ℕ) (z : ErrorMechanism) → k < length ms → MechanismFits D O (get_or ms k z)
-  pub checked : (D O n : ℕ) (t : Tables) → check_all D O n t ≡ Accepted → ModelFits D O n t
+  pub accepted : (D O i : ℕ) (ms : List ErrorMechanism) → check_model D O i ms ≡ Ok tt → (k : ℕ) (z : ErrorMechanism) → k < length ms → MechanismFits D O (get_or ms k z)
+  pub checked : (D O n : ℕ) (t : Tables) → check_all D O n t ≡ Ok tt → ModelFits D O n t

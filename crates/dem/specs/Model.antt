@@ -1,11 +1,9 @@
 -- A detector error model: docs/RULES.md, "Models".
-use Rattle.std.specs.Prelude.{ℕ, suc, ◌+◌, List, [], ◌∷◌, Bool, true, false, not, ◌&&◌, length, leb, ltb, pos, Float}
+use Rattle.std.specs.Prelude.{Ok, ℕ, suc, List, [], ◌∷◌, Bool, true, false, not, ◌&&◌, length, leb, ltb, pos, Float}
 use Rattle.std.specs.Float.Ieee as Ieee
 use Rattle.std.specs.Float.{fin}
 use Rattle.codes.specs.declared.Refusal.TheVariants.{Probability, Index}
-use Rattle.codes.specs.declared.Checked.{Checked}
-use Rattle.codes.specs.declared.Checked.TheVariants.{Accepted}
-use Rattle.codes.specs.Order.{refuse_if, and_then}
+use Rattle.codes.specs.Order.{Checked, refuse_if, and_then}
 use Rattle.codes.specs.Limits.{max_entries}
 
 -- the detectors and the observables that flip together
@@ -57,5 +55,5 @@ check_mechanism d o i m = and_then (refuse_if (not (lists_fit d o m)) (Index i))
 -- all mechanisms in order, the first being number i
 unfoldable pub check_model : ℕ → ℕ → ℕ → List ErrorMechanism → Checked
 unfolding check_mechanism
-check_model d o i [] = Accepted
+check_model d o i [] = (Ok tt)
 check_model d o i (m ∷ ms) = and_then (check_mechanism d o i m) (check_model d o (suc i) ms)

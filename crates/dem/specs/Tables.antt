@@ -1,6 +1,6 @@
 -- A model in flat tables: a column for each count, and one list of entries in the order of the frames: a mechanism's detectors,
 -- its observables, then each component's detectors and observables.
-use Rattle.std.specs.Prelude.{ℕ, zero, suc, ◌+◌, min, List, [], ◌∷◌, ◌++◌, Bool, false, ◌&&◌, length, get_or, take, drop, replicate, leb, pos, Float}
+use Rattle.std.specs.Prelude.{ℕ, zero, suc, ◌+◌, List, [], ◌∷◌, ◌++◌, Bool, false, ◌&&◌, length, get_or, take, drop, replicate, leb, pos, Float}
 use Rattle.std.specs.Float.{nan, fin}
 use Rattle.dem.specs.Model.{Symptom, ErrorMechanism}
 

@@ -44,16 +44,11 @@ pub fn sum(counts: &[u8]) -> usize
     requires { length counts.now ≤ 2 ^ 32 }
     ensures { Summed counts.now result }
 {
-    let mut s: usize = 0;
-    let mut i = 0;
-    while i < counts.len() {
-        s += counts[i] as usize;
-        i += 1;
-    }
-    s
+    counts.iter().map(|c| *c as usize).sum()
 }
 
 // The place past a mechanism.
+#[tactic(auto, using(crate::proofs::Positions::past_sums), unfolding(crate::specs::Positions::place_past))]
 pub fn past(
     head: Mechanism,
     place: Place,
@@ -74,6 +69,7 @@ pub fn past(
 }
 
 // The place past the last mechanism: all components, and all entries.
+#[tactic(auto, using(crate::proofs::Positions::totals_are))]
 pub fn totals(
     mechanisms: usize,
     detector_counts: &[u8],

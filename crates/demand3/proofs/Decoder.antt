@@ -1,54 +1,51 @@
 -- The shot decoder's part of demand 3, from its promise and the marker's.
-use Prim.Native.Nat.{ℕ, ◌≤◌}
+use Rattle.codes.specs.Order.{Checked}
+use Rattle.std.specs.Prelude.{Ok}
+use Prim.Native.Nat.{ℕ}
 use mathlib.Core.Path.{◌≡◌, refl, sym, ap, ◌∙◌, subst}
 use mathlib.Core.List.{List, ◌++◌}
 use mathlib.Core.Bool.{Bool, true}
-use mathlib.Core.Logic.{◌↔◌, ◌⊎◌, inl, inr, ⊎_elim}
+use mathlib.Core.Logic.{inl, inr, ⊎_elim}
 use lib.ListN.{length, take, drop}
 use lib.Seq.{take-append_seam, drop-append_seam}
-use Rattle.lists.proofs.Truth.{clash}
 use Rattle.bits.specs.Rows.{words}
-use Rattle.codes.specs.declared.Checked.{Checked}
-use Rattle.codes.specs.declared.Checked.TheVariants.{Accepted}
 use Rattle.steps.specs.Graph.{Graph}
 use Rattle.steps.specs.Rows.{row_of}
-use Rattle.steps.specs.Shot.{Decoded, impossible, corrected, decode, row_left}
-use Rattle.steps.specs.Call.{graph_of, lit_of, list_left}
+use Rattle.steps.specs.Shot.{Decoded, impossible, corrected, row_left}
+use Rattle.steps.specs.Call.{graph_of, list_left}
 use Rattle.steps.specs.Found.{Found, by_steps, Blank, Stuck, Hands, Whole}
 use Rattle.lent_graph.specs.Call.{check_call}
 use Rattle.lent_graph.proofs.Accepts.{call_accepted}
-use Rattle.marking.specs.declared.Marking.{Marking}
-use Rattle.marking.specs.declared.Marking.TheVariants as marking
-use Rattle.marker.specs.Answer.{marker_long, check_mark, Marks}
+use Rattle.marker.specs.Answer.{marker_long, check_mark}
 use Rattle.decoder.specs.declared.Answer.{Answer}
 use Rattle.decoder.specs.declared.Answer.TheVariants as answer
 use Rattle.decoder.specs.Answer.{Handed, graph_of_call, lit_of_call, own_long, checks, decoded, answer_of, list_after, row_after, Decodes}
-use Rattle.demand3.specs.Stated.{IsStuck, IsDecoded, HandsOver, StuckNames, Stated, Explained, DecoderStated}
+use Rattle.demand3.specs.Stated.{IsStuck, IsDecoded, HandsOver, StuckNames, Stated, DecoderStated}
 use Rattle.demand3.proofs.Marker.{marker_stated}
 
 -- ---- what an answer tells of the steps
 
-stuck_steps : (x : Decoded) (n d : ℕ) → answer.Stuck n d ≡ answer_of Accepted x → x ≡ impossible n d
+stuck_steps : (x : Decoded) (n d : ℕ) → answer.Stuck n d ≡ answer_of (Ok tt) x → x ≡ impossible n d
 unfolding answer_of
 stuck_steps (impossible m e) n d h = cc
 stuck_steps (corrected m list) n d h = cc
 
-pub decoded_steps : (x : Decoded) (n k : ℕ) → answer.Decoded n k ≡ answer_of Accepted x → (list : List ℕ) × (x ≡ corrected n list) × (k ≡ length list)
+pub decoded_steps : (x : Decoded) (n k : ℕ) → answer.Decoded n k ≡ answer_of (Ok tt) x → (list : List ℕ) × (x ≡ corrected n list) × (k ≡ length list)
 unfolding answer_of
-decoded_steps (impossible m e) n k h = clash refl cc
+decoded_steps (impossible m e) n k h = cc
 decoded_steps (corrected m list) n k h = (list, cc, cc)
 
-steps_stuck : (n d : ℕ) → answer_of Accepted (impossible n d) ≡ answer.Stuck n d
+steps_stuck : (n d : ℕ) → answer_of (Ok tt) (impossible n d) ≡ answer.Stuck n d
 unfolding answer_of
 steps_stuck n d = refl
 
-steps_decoded : (n : ℕ) (list : List ℕ) → answer_of Accepted (corrected n list) ≡ answer.Decoded n (length list)
+steps_decoded : (n : ℕ) (list : List ℕ) → answer_of (Ok tt) (corrected n list) ≡ answer.Decoded n (length list)
 unfolding answer_of
 steps_decoded n list = refl
 
 -- ---- a call that is not refused
 
-module _ (h : Handed) (r : Answer) (list row : List ℕ) (p : Decodes h r list row) (ok : checks h ≡ Accepted) where
+module _ (h : Handed) (r : Answer) (list row : List ℕ) (p : Decodes h r list row) (ok : checks h ≡ Ok tt) where
   abbrev g : Graph
   g = graph_of_call h
 
@@ -58,8 +55,8 @@ module _ (h : Handed) (r : Answer) (list row : List ℕ) (p : Decodes h r list r
   found : Found by_steps g lit
   found = p.found ok
 
-  answer_is : (x : Decoded) → decoded h ≡ x → r ≡ answer_of Accepted x
-  answer_is x e = p.answers ∙ ap (λ (c : Checked). answer_of c (decoded h)) ok ∙ ap (answer_of Accepted) e
+  answer_is : (x : Decoded) → decoded h ≡ x → r ≡ answer_of (Ok tt) x
+  answer_is x e = p.answers ∙ ap (λ (c : Checked). answer_of c (decoded h)) ok ∙ ap (answer_of (Ok tt)) e
 
   list_is : (x : Decoded) → decoded h ≡ x → list ≡ list_left h.list x
   unfolding list_after
@@ -80,7 +77,7 @@ module _ (h : Handed) (r : Answer) (list row : List ℕ) (p : Decodes h r list r
 
   -- the marker is not refused either
   pub mark_checked : (was marks wrong : List ℕ) → marker_long h.graph.detectors h.graph.observables h.graph.edges (length was) (length marks) (length wrong) ≡ true
-      → check_mark h.graph was marks wrong h.shot h.width ≡ Accepted
+      → check_mark h.graph was marks wrong h.shot h.width ≡ Ok tt
   unfolding checks
   mark_checked was marks wrong long =
       ap (λ (b : Bool). check_call h.graph b h.shot 1 h.width) (long ∙ sym (call_accepted h.graph (own_long h) h.shot 1 h.width ok).own_long) ∙ ok

@@ -1,41 +1,41 @@
 -- The marker's part of demand 3, from its promise.
-use Prim.Native.Nat.{ℕ, ◌<◌}
+use Rattle.std.specs.Prelude.{Result, Ok, Err}
+use Rattle.codes.specs.Order.{Checked}
+use Prim.Native.Nat.{ℕ}
 use mathlib.Core.Path.{◌≡◌, refl, sym, ap, ◌∙◌, subst}
 use mathlib.Core.List.{List, ◌++◌}
-use mathlib.Core.Bool.{Bool, true, false}
-use mathlib.Core.Logic.{◌↔◌}
+use mathlib.Core.Bool.{Bool, true}
 use lib.ListN.{length, take, drop}
 use lib.Seq.{take-append_seam, drop-append_seam}
-use Rattle.lists.proofs.Truth.{case-of, clash}
+use Rattle.lists.proofs.Truth.{case-of}
 use Rattle.bits.specs.Rows.{words}
+use Rattle.codes.specs.declared.Refusal.{Refusal}
 use Rattle.codes.specs.declared.Refusal.TheVariants as refusal
-use Rattle.codes.specs.declared.Checked.{Checked}
-use Rattle.codes.specs.declared.Checked.TheVariants.{Accepted}
 use Rattle.steps.specs.Graph.{Graph}
 use Rattle.steps.specs.Rows.{row_of}
-use Rattle.steps.specs.Marker.{Marked, pass, differs, unfit, fit, mark}
+use Rattle.steps.specs.Marker.{Marked, pass, differs, unfit, fit}
 use Rattle.steps.specs.Call.{graph_of, lit_of, row_marked}
 use Rattle.steps.specs.Found.{Found, by_steps}
 use Rattle.lent_graph.specs.Call.{Lent, graph_in}
 use Rattle.marking.specs.declared.Marking.{Marking}
 use Rattle.marking.specs.declared.Marking.TheVariants as marking
 use Rattle.marking.specs.Answer.{marking_of}
-use Rattle.marker.specs.Answer.{answer_of, row_after, check_mark, mark_in, Marks}
+use Rattle.marker.specs.Answer.{answer_of, row_after, mark_in}
 use Rattle.demand3.specs.Stated.{Judges, MarkerStated}
 
 -- ---- what an answer tells of the verdict
 
-passes : (x : Marked) → marking.Pass ≡ marking_of x → (row : List ℕ) × (x ≡ pass row)
+passes : (x : Marked) → Ok marking.Pass ≡ marking_of x → (row : List ℕ) × (x ≡ pass row)
 passes (pass row) h = (row, refl)
-passes (differs d) h = absurd (clash refl cc)
-passes unfit h = absurd (clash refl cc)
+passes (differs d) h = cc
+passes unfit h = cc
 
-differing : (x : Marked) (d : ℕ) → marking.Differs d ≡ marking_of x → x ≡ differs d
+differing : (x : Marked) (d : ℕ) → Ok (marking.Differs d) ≡ marking_of x → x ≡ differs d
 differing (pass row) d h = cc
 differing (differs e) d h = cc
 differing unfit d h = cc
 
-refusing : (x : Marked) → marking.Refused refusal.Edge ≡ marking_of x → x ≡ unfit
+refusing : (x : Marked) → Err refusal.Edge ≡ marking_of x → x ≡ unfit
 refusing (pass row) h = cc
 refusing (differs e) h = cc
 refusing unfit h = refl
@@ -58,13 +58,13 @@ module _ (l : Lent) (shot list was : List ℕ) (f : Found by_steps (graph_in l) 
 
   -- a list that passes is fit
   fit_passed : (row : List ℕ) → x ≡ pass row → fit g list ≡ true
-  fit_passed row h = case-of (fit g list) (λ t. t) (λ u. absurd (let p : unfit ≡ pass row = sym (f.refused list u) ∙ h in clash refl cc))
+  fit_passed row h = case-of (fit g list) (λ t. t) (λ u. absurd (let p : unfit ≡ pass row = sym (f.refused list u) ∙ h in cc))
 
   -- the row of a list that passes
   pub passed_row : (row : List ℕ) → x ≡ pass row → row ≡ row_of g list
   passed_row row h = (f.judged list (fit_passed row h)).row row h
 
-  judged : (m : Marking) (left : List ℕ) → m ≡ marking_of x → left ≡ row_marked was x → Judges l shot list was m left
+  judged : (m : Result Marking Refusal) (left : List ℕ) → m ≡ marking_of x → left ≡ row_marked was x → Judges l shot list was m left
   unfolding row_marked graph_of
   judged m left a b = record {
     exactly = (
@@ -79,7 +79,7 @@ module _ (l : Lent) (shot list was : List ℕ) (f : Found by_steps (graph_in l) 
     );
     differs = λ d p.
         let e = differing x d (sym p ∙ a) in
-        (f.judged list (case-of (fit g list) (λ t. t) (λ u. absurd (let q : unfit ≡ differs d = sym (f.refused list u) ∙ e in clash refl cc)))).wrong d e;
+        (f.judged list (case-of (fit g list) (λ t. t) (λ u. absurd (let q : unfit ≡ differs d = sym (f.refused list u) ∙ e in cc)))).wrong d e;
     untouched = λ n. same n x refl;
   }
     where
@@ -91,7 +91,7 @@ module _ (l : Lent) (shot list was : List ℕ) (f : Found by_steps (graph_in l) 
       by (differs d) e = ap (λ (s : List ℕ). drop (words l.observables) s) (b ∙ ap (row_marked was) e)
       by unfit e = ap (λ (s : List ℕ). drop (words l.observables) s) (b ∙ ap (row_marked was) e)
 
-      same : (m ≡ marking.Pass → ⊥) → (y : Marked) → x ≡ y → left ≡ was
+      same : (m ≡ Ok marking.Pass → ⊥) → (y : Marked) → x ≡ y → left ≡ was
       same n (pass row) e = absurd (n (a ∙ ap marking_of e))
       same n (differs d) e = b ∙ ap (row_marked was) e
       same n unfit e = b ∙ ap (row_marked was) e

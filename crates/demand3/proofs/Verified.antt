@@ -1,42 +1,39 @@
 -- A shot decoded and its list marked: the two promises put together.
+use Rattle.std.specs.Prelude.{Ok, Err}
+use Rattle.codes.specs.Order.{Checked}
 use Prim.Native.Nat.{ℕ, ◌≤◌, ◌-◌}
 use native.Mathlib.Omega.{arith}
-use mathlib.Core.Path.{◌≡◌, refl, sym, ap, ◌∙◌, subst}
+use mathlib.Core.Path.{◌≡◌, refl, ap, ◌∙◌, subst}
 use mathlib.Core.List.{List, ◌++◌}
-use mathlib.Core.Bool.{Bool, true}
+use mathlib.Core.Bool.{true}
 use borrow.Author.Tests.{le-leb}
 use lib.ListN.{length, take, drop, replicate, length-append}
-use Rattle.lists.proofs.Truth.{clash}
 use Rattle.bits.specs.Rows.{words}
 use Rattle.codes.specs.declared.Refusal.{Refusal}
 use Rattle.codes.specs.declared.Refusal.TheVariants as refusal
-use Rattle.codes.specs.declared.Checked.{Checked}
-use Rattle.codes.specs.declared.Checked.TheVariants as checked
-use Rattle.steps.specs.Shot.{Decoded, corrected}
+use Rattle.steps.specs.Shot.{Decoded}
 use Rattle.steps.specs.Call.{list_left}
-use Rattle.steps.specs.Found.{Blank}
-use Rattle.marking.specs.declared.Marking.{Marking}
 use Rattle.marking.specs.declared.Marking.TheVariants as marking
 use Rattle.lent_graph.specs.Call.{Lent}
 use Rattle.lent_graph.proofs.Accepts.{call_accepted}
 use Rattle.marker.specs.Answer.{marker_long, Marks}
 use Rattle.decoder.specs.declared.Answer.{Answer}
 use Rattle.decoder.specs.declared.Answer.TheVariants as answer
-use Rattle.decoder.specs.Answer.{Handed, graph_of_call, own_long, checks, decoded, answer_of, list_after, Decodes}
-use Rattle.demand3.specs.Stated.{HandsOver, Judges}
+use Rattle.decoder.specs.Answer.{Handed, own_long, checks, decoded, answer_of, list_after, Decodes}
+use Rattle.demand3.specs.Stated.{Judges}
 use Rattle.demand3.specs.declared.Verdict.{Verdict}
 use Rattle.demand3.specs.Verified.{Fits, Unwritten, Follows, Verified}
 use Rattle.demand3.proofs.Marker.{marker_stated}
 use Rattle.demand3.proofs.Decoder.{decoded_steps, listed, whole, hands_over, mark_checked}
 
 -- a call that decoded was not refused
-accepted_by : (c : Checked) (x : Decoded) (n k : ℕ) → answer.Decoded n k ≡ answer_of c x → c ≡ checked.Accepted
+accepted_by : (c : Checked) (x : Decoded) (n k : ℕ) → answer.Decoded n k ≡ answer_of c x → c ≡ Ok tt
 unfolding answer_of
-accepted_by checked.Accepted x n k e = refl
-accepted_by (checked.Refused r) x n k e = clash refl cc
+accepted_by (Ok tt) x n k e = refl
+accepted_by (Err r) x n k e = cc
 
 module _ (h : Handed) (n k : ℕ) (list row : List ℕ) (p : Decodes h (answer.Decoded n k) list row) where
-  ok : checks h ≡ checked.Accepted
+  ok : checks h ≡ Ok tt
   ok = accepted_by (checks h) (decoded h) n k p.answers
 
   -- the limits bound what the marker needs
@@ -61,7 +58,7 @@ module _ (h : Handed) (n k : ℕ) (list row : List ℕ) (p : Decodes h (answer.D
     judged : Judges h.graph h.shot (take k list) (replicate 2 0) v.marking v.row
     judged = marker_stated h.graph h.shot h.width (take k list) (replicate 2 0) (replicate 256 0) (replicate 64 0) v.marking v.row t (mark_checked h (answer.Decoded n k) list row p ok (replicate 2 0) (replicate 256 0) (replicate 64 0) roomy)
 
-    passed : v.marking ≡ marking.Pass
+    passed : v.marking ≡ Ok marking.Pass
     passed =
         let (es, x, len) = decoded_steps (decoded h) n k (p.answers ∙ ap (λ (c : Checked). answer_of c (decoded h)) ok) in
         let w = whole h (answer.Decoded n k) list row p ok n es x in
@@ -76,8 +73,8 @@ module _ (h : Handed) (n k : ℕ) (list row : List ℕ) (p : Decodes h (answer.D
       passes = λ n' k' e. passed;
       same_row = λ n' k' e zero. ((hands_over h (answer.Decoded n k) list row p ok zero n k refl).marked (replicate 2 0) (replicate 256 0) (replicate 64 0) v.marking v.row roomy t).1;
       past_row = λ n' k' e. judged.past_row;
-      stuck = λ n' d e. clash refl cc;
-      refused = λ r e. clash refl cc;
+      stuck = λ n' d e. cc;
+      refused = λ r e. cc;
     }
 
 module _ (l : Lent) (shot : List ℕ) (width : ℕ) (a : Answer) (list : List ℕ) (v : Verdict) where
@@ -87,22 +84,22 @@ module _ (l : Lent) (shot : List ℕ) (width : ℕ) (a : Answer) (list : List �
         let q : k ≡ k' = cc in
         let z : k - 0 ≡ k' = omega (arith, q) in
         subst (λ (j : ℕ). Marks l shot width (take j list) (replicate 2 0) (replicate 256 0) (replicate 64 0) v.marking v.row) z t;
-    stuck = λ n' d e. clash refl cc;
-    refused = λ r e. clash refl cc;
+    stuck = λ n' d e. cc;
+    refused = λ r e. cc;
   }
 
-  pub follows_stuck : (n d : ℕ) → a ≡ answer.Stuck n d → Unwritten v (marking.Refused (refusal.Stuck 0 d)) → Follows l shot width a list v
+  pub follows_stuck : (n d : ℕ) → a ≡ answer.Stuck n d → Unwritten v (Err (refusal.Stuck 0 d)) → Follows l shot width a list v
   follows_stuck n d h u = record {
-    decoded = λ n' k e. clash refl cc;
-    stuck = λ n' d' e. let q : d ≡ d' = cc in subst (λ (j : ℕ). Unwritten v (marking.Refused (refusal.Stuck 0 j))) q u;
-    refused = λ r e. clash refl cc;
+    decoded = λ n' k e. cc;
+    stuck = λ n' d' e. let q : d ≡ d' = cc in subst (λ (j : ℕ). Unwritten v (Err (refusal.Stuck 0 j))) q u;
+    refused = λ r e. cc;
   }
 
-  pub follows_refused : (r : Refusal) → a ≡ answer.Refused r → Unwritten v (marking.Refused r) → Follows l shot width a list v
+  pub follows_refused : (r : Refusal) → a ≡ answer.Refused r → Unwritten v (Err r) → Follows l shot width a list v
   follows_refused r h u = record {
-    decoded = λ n k e. clash refl cc;
-    stuck = λ n d e. clash refl cc;
-    refused = λ r' e. let q : r ≡ r' = cc in subst (λ (s : Refusal). Unwritten v (marking.Refused s)) q u;
+    decoded = λ n k e. cc;
+    stuck = λ n d e. cc;
+    refused = λ r' e. let q : r ≡ r' = cc in subst (λ (s : Refusal). Unwritten v (Err s)) q u;
   }
 
 module _ (h : Handed) (list row : List ℕ) where
@@ -115,9 +112,9 @@ module _ (h : Handed) (list row : List ℕ) where
     answer = answer.Stuck n d;
     decodes = p;
     marks = f.decoded;
-    passes = λ n' k e. clash refl cc;
-    same_row = λ n' k e zero. clash refl cc;
-    past_row = λ n' k e. clash refl cc;
+    passes = λ n' k e. cc;
+    same_row = λ n' k e zero. cc;
+    past_row = λ n' k e. cc;
     stuck = f.stuck;
     refused = f.refused;
   }
@@ -125,9 +122,9 @@ module _ (h : Handed) (list row : List ℕ) where
     answer = answer.Refused r;
     decodes = p;
     marks = f.decoded;
-    passes = λ n k e. clash refl cc;
-    same_row = λ n k e zero. clash refl cc;
-    past_row = λ n k e. clash refl cc;
+    passes = λ n k e. cc;
+    same_row = λ n k e zero. cc;
+    past_row = λ n k e. cc;
     stuck = f.stuck;
     refused = f.refused;
   }

@@ -1,10 +1,9 @@
 -- Demand 3 of the two calls, stated over the answers and the slices that they hand back.
-use Rattle.std.specs.Prelude.{ℕ, ◌<◌, ◌≤◌, ◌≡◌, List, [], Bool, true, false, ◌↔◌, ◌⊎◌, length, get_or, take, drop}
-use Rattle.std.proofs.Math.Option.{some}
+use Rattle.std.specs.Prelude.{ℕ, ◌<◌, ◌≤◌, ◌≡◌, List, true, false, ◌↔◌, ◌⊎◌, length, get_or, take, drop, Result, Ok, Err}
 use Rattle.bits.specs.Rows.{words}
-use Rattle.codes.specs.declared.Checked.TheVariants.{Accepted}
+use Rattle.codes.specs.declared.Refusal.{Refusal}
 use Rattle.codes.specs.declared.Refusal.TheVariants as refusal
-use Rattle.steps.specs.Graph.{Graph, flipped}
+use Rattle.steps.specs.Graph.{flipped}
 use Rattle.steps.specs.Rows.{row_of}
 use Rattle.steps.specs.Marker.{fit}
 use Rattle.steps.specs.Found.{Known, Distinct, Explains, Blank, Xored, Rounds, NoneActive, Halted, Named}
@@ -51,10 +50,10 @@ module _ (h : Handed) where
     -- and no more: no cluster is active after them
     pub ended : NoneActive (graph_of_call h) (lit_of_call h) n
     -- "the marker passes it and writes the same row", whatever slices it is lent
-    pub marked : (was marks wrong : List ℕ) (m : Marking) (left : List ℕ)
+    pub marked : (was marks wrong : List ℕ) (m : Result Marking Refusal) (left : List ℕ)
         → marker_long h.graph.detectors O h.graph.edges (length was) (length marks) (length wrong) ≡ true
         → Marks h.graph h.shot h.width (take k list) was marks wrong m left
-        → (m ≡ marking.Pass) × (take (words O) left ≡ take (words O) row) × (drop (words O) left ≡ drop (words O) was)
+        → (m ≡ Ok marking.Pass) × (take (words O) left ≡ take (words O) row) × (drop (words O) left ≡ drop (words O) was)
 
   pub record StuckNames (n d : ℕ) (list row : List ℕ) : Type 0 where
     pub list_untouched : list ≡ h.list
@@ -79,17 +78,17 @@ module _ (l : Lent) (shot list : List ℕ) where
   Wrong d = flipped (graph_in l) list d ≡ get_or (lit_of l.detectors shot) d false → ⊥
 
   -- what it was lent as its row, its answer, and the row that it left
-  pub record Judges (was : List ℕ) (m : Marking) (left : List ℕ) : Type 0 where
+  pub record Judges (was : List ℕ) (m : Result Marking Refusal) (left : List ℕ) : Type 0 where
     -- "the marker passes exactly what explains",
-    pub exactly : (m ≡ marking.Pass) ↔ ((fit (graph_in l) list ≡ true) × Explains (graph_in l) (lit_of l.detectors shot) list)
+    pub exactly : (m ≡ Ok marking.Pass) ↔ ((fit (graph_in l) list ≡ true) × Explains (graph_in l) (lit_of l.detectors shot) list)
     -- and then it writes the XOR of the list's observables
-    pub row_is : m ≡ marking.Pass → take (words l.observables) left ≡ row_of (graph_in l) list
+    pub row_is : m ≡ Ok marking.Pass → take (words l.observables) left ≡ row_of (graph_in l) list
     pub past_row : drop (words l.observables) left ≡ drop (words l.observables) was
     -- 13 exactly for an unknown or repeated edge
-    pub refused : (m ≡ marking.Refused refusal.Edge) ↔ (fit (graph_in l) list ≡ false)
+    pub refused : (m ≡ Err refusal.Edge) ↔ (fit (graph_in l) list ≡ false)
     -- Differs names the lowest wrong detector, and the row is untouched
-    pub differs : (d : ℕ) → m ≡ marking.Differs d → (d < l.detectors) × Wrong d × ((c : ℕ) → c < d → flipped (graph_in l) list c ≡ get_or (lit_of l.detectors shot) c false)
-    pub untouched : (m ≡ marking.Pass → ⊥) → left ≡ was
+    pub differs : (d : ℕ) → m ≡ Ok (marking.Differs d) → (d < l.detectors) × Wrong d × ((c : ℕ) → c < d → flipped (graph_in l) list c ≡ get_or (lit_of l.detectors shot) c false)
+    pub untouched : (m ≡ Ok marking.Pass → ⊥) → left ≡ was
 
 -- ---- the demand
 
@@ -106,9 +105,9 @@ RoundsFixed =
 
 -- of every call that is not refused, whose row began as zero
 abbrev pub DecoderStated : Type 0
-DecoderStated = (h : Handed) (r : Answer) (list row : List ℕ) → Decodes h r list row → checks h ≡ Accepted → Blank (graph_of_call h) h.row → Stated h r list row
+DecoderStated = (h : Handed) (r : Answer) (list row : List ℕ) → Decodes h r list row → checks h ≡ Ok tt → Blank (graph_of_call h) h.row → Stated h r list row
 
 abbrev pub MarkerStated : Type 0
 MarkerStated =
-    (l : Lent) (shot : List ℕ) (width : ℕ) (list row marks wrong : List ℕ) (m : Marking) (left : List ℕ)
-    → Marks l shot width list row marks wrong m left → check_mark l row marks wrong shot width ≡ Accepted → Judges l shot list row m left
+    (l : Lent) (shot : List ℕ) (width : ℕ) (list row marks wrong : List ℕ) (m : Result Marking Refusal) (left : List ℕ)
+    → Marks l shot width list row marks wrong m left → check_mark l row marks wrong shot width ≡ Ok tt → Judges l shot list row m left

@@ -7,6 +7,8 @@ ghost use Rattle.lent_graph.specs.Call.{lent_of};
 ghost use Rattle.decoder.specs.Answer.{handed};
 ghost use Rattle.demand3.specs.Verified.{Fits, Follows, Verified};
 
+use adjacency::Neighbor;
+use cells::{Flags, Link, Node, Stack};
 use codes::Refusal;
 use decoder::Answer;
 use marking::Marking;
@@ -14,7 +16,7 @@ use marking::Marking;
 // The marker's answer and its row, which 128 observables fill. By value: each slice lent for writing makes the check longer.
 #[derive(Clone, Copy)]
 pub struct Verdict {
-    pub marking: Marking,
+    pub marking: Result<Marking, Refusal>,
     pub row: [u64; 2],
 }
 
@@ -60,11 +62,11 @@ fn mark_answer(
             rounds: _,
             detector,
         } => Verdict {
-            marking: Marking::Refused(Refusal::Stuck { shot: 0, detector }),
+            marking: Err(Refusal::Stuck { shot: 0, detector }),
             row: [0; 2],
         },
         Answer::Refused(r) => Verdict {
-            marking: Marking::Refused(r),
+            marking: Err(r),
             row: [0; 2],
         },
     }
@@ -75,11 +77,11 @@ pub fn decode_and_mark(
     row: &mut [u64],
     list: &mut [u32],
     adj_offsets: &mut [u32],
-    adj: &mut [[u32; 2]],
-    tree: &mut [[u32; 2]],
-    flags: &mut [[bool; 8]],
-    stacks: &mut [[u32; 6]],
-    links: &mut [[u32; 4]],
+    adj: &mut [Neighbor],
+    tree: &mut [Node],
+    flags: &mut [Flags],
+    stacks: &mut [Stack],
+    links: &mut [Link],
     growth: &mut [f64],
     sat: &mut [bool],
     detectors: usize,

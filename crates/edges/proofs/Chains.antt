@@ -1,4 +1,5 @@
 -- Walking a chain, and adding an edge to its own.
+use Rattle.std.specs.Prelude.{Option, Some, None}
 use Prim.Native.Nat.{ℕ, zero, suc, ◌≤◌, ◌<◌}
 use native.Mathlib.Omega.{arith}
 use mathlib.Core.Path.{◌≡◌, refl, sym, ap, ◌∙◌}
@@ -9,14 +10,12 @@ use lib.ListN.{length, get_or}
 use lib.Dec.{eqb}
 use borrow.Author.Tests.{eq-eqb, ne_eqb, eqb-true}
 use Rattle.lists.proofs.Truth.{case-of}
-use Rattle.edges.specs.declared.Found.{Found}
-use Rattle.edges.specs.declared.Found.TheVariants.{At, Nothing}
 use Rattle.edges.specs.Chains.{chain_end, last_with, same_ends, last_ends, Chained}
 
 -- what is found from a place of a chain on
-unfoldable pub onward : List ℕ → List ℕ → ℕ → ℕ → ℕ → Found
+unfoldable pub onward : List ℕ → List ℕ → ℕ → ℕ → ℕ → Option ℕ
 unfolding last_ends
-onward us vs a b at = cond (eqb at chain_end) Nothing (last_ends us vs a b (suc at))
+onward us vs a b at = cond (eqb at chain_end) None (last_ends us vs a b (suc at))
 
 -- a place of the chain of a: its end, or an edge below n whose first end is a
 abbrev pub Link : List ℕ → ℕ → ℕ → ℕ → Type 0
@@ -39,7 +38,7 @@ last_onward us vs a b (suc e) h = case-of (eqb (get_or us e 0) a)
     (λ (t : eqb (get_or us e 0) a ≡ true). let i : last_with us a (suc e) ≡ e = rw t in ap (onward us vs a b) i ∙ rw (ne_eqb e chain_end (omega arith)))
     (λ (f : eqb (get_or us e 0) a ≡ false). rw f (last_onward us vs a b e (omega arith)))
 
-module _ (n : ℕ) (us vs first next : List ℕ) (c : Chained n us vs first next) where
+module _ {n : ℕ} {us vs first next : List ℕ} (c : Chained n us vs first next) where
   pub start_link : (a : ℕ) → a < length first → Link us a n (get_or first a 0)
   start_link a h = rw (c.starts a h) (last_link us a n)
 
@@ -63,7 +62,7 @@ module _ (n : ℕ) (us vs first next : List ℕ) (c : Chained n us vs first next
       (⊎_elim (λ (e : last_with us a at ≡ chain_end). rw e (omega arith)) (λ k. let m = last_with us a at in rw (ne_eqb m chain_end (omega arith)) (omega arith)) (last_link us a at))
 
   -- the edge is the one
-  pub onward_found : (a b at : ℕ) → at < n → same_ends us vs a b at ≡ true → onward us vs a b at ≡ At at
+  pub onward_found : (a b at : ℕ) → at < n → same_ends us vs a b at ≡ true → onward us vs a b at ≡ Some at
   unfolding onward last_ends
   onward_found a b at h t = let few = c.few in rw (ne_eqb at chain_end (omega arith), t)
 
@@ -74,6 +73,6 @@ module _ (n : ℕ) (us vs first next : List ℕ) (c : Chained n us vs first next
       let few = c.few in
       ap (onward us vs a b) (next_is a at h t) ∙ last_onward us vs a b at (omega arith) ∙ sym (rw (ne_eqb at chain_end (omega arith), f))
 
-pub onward_end : (us vs : List ℕ) (a b at : ℕ) → at ≡ chain_end → onward us vs a b at ≡ Nothing
+pub onward_end : (us vs : List ℕ) (a b at : ℕ) → at ≡ chain_end → onward us vs a b at ≡ None
 unfolding onward
 onward_end us vs a b at h = rw (eq-eqb at chain_end h)

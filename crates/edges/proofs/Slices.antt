@@ -12,7 +12,7 @@ use Rattle.bits.specs.Rows.{words}
 use Rattle.bits.proofs.Booleans.{row_length}
 use Rattle.weight.specs.Weight.{weight_of}
 use Rattle.dem.specs.Tables.{written}
-use Rattle.lent_graph.proofs.Edges.{any_default, length_map}
+use Rattle.std.proofs.lemmas.List.{get_or_default, length-map}
 use Rattle.edges.specs.Compile.{Edge, obs_row}
 use Rattle.edges.specs.Tables.{Slices, slices, flat, put_row, filled}
 
@@ -43,9 +43,9 @@ module _ {A : Type 0} (f : Edge → A) where
   pub column_put : (new : Edge) (es : List Edge) (k : ℕ) (was : List A) → k ≤ length es → k < length (written (map f es) was)
       → set (written (map f es) was) k (f new) ≡ written (map f (put new k es)) was
   unfolding put
-  column_put new [] zero [] h l = let z : ⊥ = omega arith in absurd z
+  column_put new [] zero [] h l = absurd (omega arith)
   column_put new [] zero (x ∷ was) h l = refl
-  column_put new [] (suc k) was h l = let z : ⊥ = omega arith in absurd z
+  column_put new [] (suc k) was h l = absurd (omega arith)
   column_put new (e ∷ es) zero was h l = refl
   column_put new (e ∷ es) (suc k) was h l =
       let q = ap length (cons_written (f e) (map f es) was) in
@@ -55,8 +55,8 @@ module _ {A : Type 0} (f : Edge → A) where
 
   pub column_at : (es : List Edge) (j : ℕ) (was : List A) (z : A) (d : Edge) → j < length es → get_or (written (map f es) was) j z ≡ f (get_or es j d)
   column_at es j was z d h =
-      let m : j < length (map f es) = rw (length_map f es) h in
-      get_or-append (map f es) (drop (length (map f es)) was) z j m ∙ any_default (map f es) j z (f d) m ∙ get_or-map f es j d
+      let m : j < length (map f es) = rw (length-map es f) h in
+      get_or-append (map f es) (drop (length (map f es)) was) z j m ∙ get_or_default (map f es) j z (f d) m ∙ get_or-map f es j d
 
 module _ (w : ℕ) (r : Edge → List ℕ) (long : (e : Edge) → length (r e) ≡ w) where
   -- the first row, then the others over what is past it
@@ -87,7 +87,7 @@ module _ (w : ℕ) (r : Edge → List ℕ) (long : (e : Edge) → length (r e) �
       let a : 0 * w ≡ 0 = zero-mul w in
       let b : 0 * w + w ≡ w = (let s = zero-mul w in omega arith) in
       rw (b, a) (sym (flat_cons new [] was))
-  rows_put new [] (suc k) was h = let z : ⊥ = omega arith in absurd z
+  rows_put new [] (suc k) was h = absurd (omega arith)
   rows_put new (e ∷ es) zero was h = rw (flat_cons e es was, flat_cons new es was) (row_zero (r e) (written (flat (map r es)) (drop w was)) (r new) (long e))
   rows_put new (e ∷ es) (suc k) was h =
       rw (flat_cons e es was, flat_cons e (put new k es) was, row_suc k (r e) (written (flat (map r es)) (drop w was)) (r new) (long e))

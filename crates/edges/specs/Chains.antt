@@ -1,7 +1,6 @@
 -- The edges so far in chains, one for each first detector: from the last edge to the one before it.
+use Rattle.std.specs.Prelude.{Option, Some, None}
 use Rattle.std.specs.Prelude.{ℕ, zero, suc, ◌<◌, ◌≡◌, List, Bool, false, cond, ◌&&◌, length, get_or, eqb}
-use Rattle.edges.specs.declared.Found.{Found}
-use Rattle.edges.specs.declared.Found.TheVariants.{At, Nothing}
 
 -- the end of a chain
 abbrev pub chain_end : ℕ
@@ -17,9 +16,9 @@ abbrev pub same_ends : List ℕ → List ℕ → ℕ → ℕ → ℕ → Bool
 same_ends us vs a b e = eqb (get_or us e 0) a && eqb (get_or vs e 0) b
 
 -- the last of the first n edges with the ends a and b
-unfoldable pub last_ends : List ℕ → List ℕ → ℕ → ℕ → ℕ → Found
-last_ends us vs a b zero = Nothing
-last_ends us vs a b (suc e) = cond (same_ends us vs a b e) (At e) (last_ends us vs a b e)
+unfoldable pub last_ends : List ℕ → List ℕ → ℕ → ℕ → ℕ → Option ℕ
+last_ends us vs a b zero = None
+last_ends us vs a b (suc e) = cond (same_ends us vs a b e) (Some e) (last_ends us vs a b e)
 
 -- n edges with the ends us and vs, no two of them with the same, in their chains
 pub record Chained (n : ℕ) (us vs first next : List ℕ) : Type 0 where

@@ -1,4 +1,6 @@
 -- Compiling a model to its edge graph: docs/RULES.md, "Graphs".
+use Rattle.codes.specs.Order.{Checked}
+use Rattle.std.specs.Prelude.{Ok, Err}
 use Rattle.std.specs.Prelude.{ℕ, suc, List, [], ◌∷◌, map, Bool, false, cond, ◌&&◌, eqb, pos, Float}
 use Rattle.std.specs.Float.Ieee as Ieee
 use Rattle.std.specs.Float.{fin}
@@ -7,8 +9,6 @@ use Rattle.bits.specs.Rows.{words, row_of_bits}
 use Rattle.weight.specs.Weight.{weight_of}
 use Rattle.codes.specs.declared.Refusal.{Refusal}
 use Rattle.codes.specs.declared.Refusal.TheVariants.{NotGraphlike}
-use Rattle.codes.specs.declared.Checked.{Checked}
-use Rattle.codes.specs.declared.Checked.TheVariants.{Accepted, Refused}
 use Rattle.dem.specs.Model.{ErrorMechanism, check_mechanism}
 use Rattle.steps.specs.Graph.{Graph, boundary}
 
@@ -53,8 +53,8 @@ is_zero p = Ieee.eq p (fin false 0 (pos 0))
 -- a mechanism that passes its check: "zero ..: skipped" comes before 7
 unfoldable pub join_next : ℕ → ErrorMechanism → List Edge → Checked → Edges
 unfolding join_by
-join_next i m es (Refused r) = refused r
-join_next i m es Accepted = cond (is_zero m.probability) (into es) (join_by i m es m.symptom.detectors)
+join_next i m es (Err r) = refused r
+join_next i m es (Ok tt) = cond (is_zero m.probability) (into es) (join_by i m es m.symptom.detectors)
 
 -- lists (5), then probability (4), then the edge
 abbrev pub next : ℕ → ℕ → ℕ → ErrorMechanism → Edges → Edges

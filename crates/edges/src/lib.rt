@@ -14,13 +14,6 @@ ghost use Rattle.edges.specs.Chains.{chain_end, last_ends, Chained};
 // The end of a chain.
 pub const NONE: u32 = 4294967295;
 
-// What looking for an edge finds.
-#[derive(Clone, Copy)]
-pub enum Found {
-    At(usize),
-    Nothing,
-}
-
 pub fn same_ends(a: u32, b: u32, u: u32, v: u32) -> bool
     ensures { result ≡ (eqb a u && eqb b v) }
 {
@@ -36,31 +29,31 @@ pub fn find_edge(
     edge_v: &[u32],
     first: &[u32],
     next: &[u32],
-) -> Found
+) -> Option<usize>
     requires { (u < length first.now) × (count ≤ length edge_u.now) × (count ≤ length edge_v.now) × (count ≤ length next.now) × Chained count edge_u.now edge_v.now first.now next.now }
     ensures { result ≡ last_ends edge_u.now edge_v.now u v count }
 {
     let mut at = first[u as usize];
+    // kept: a walk along a chain, each next place read from a table: a `for` would need an iterator of its own
     while at != NONE {
         let e = at as usize;
         at = next[e];
         if same_ends(edge_u[e], edge_v[e], u, v) {
-            return Found::At(e);
+            return Some(e);
         }
     }
-    Found::Nothing
+    None
 }
 
 // The row of a list of observables.
+#[tactic(auto, using(crate::proofs::Rows::word_below))]
 pub fn write_row(observables: usize, list: &[u32], row: &mut [u64])
     requires { (length row.old ≡ words observables) × (list_fits observables list.now ≡ true) }
     ensures { row.new ≡ obs_row observables list.now }
 {
-    tables::fill_u64(row, 0);
-    let mut i = 0;
-    while i < list.len() {
-        bits::set(row, list[i] as usize);
-        i += 1;
+    row.fill(0);
+    for j in list {
+        bits::set(row, *j as usize);
     }
 }
 
@@ -112,11 +105,28 @@ pub fn share(
     ensures { Shares observables count (edge_with u v p list.now) result (slices edge_u.old edge_v.old edge_weight.old edge_obs.old edge_p.old) (slices edge_u.new edge_v.new edge_weight.new edge_obs.new edge_p.new)
         × Chained result edge_u.new edge_v.new first.new next.new }
 {
-    let found = find_edge(u, v, count, edge_u, edge_v, first, next);
-    if let Found::At(e) = found {
-        if edge_p[e] < p {
+    match find_edge(u, v, count, edge_u, edge_v, first, next) {
+        Some(e) => {
+            if edge_p[e] < p {
+                write_edge(
+                    e,
+                    u,
+                    v,
+                    p,
+                    list,
+                    observables,
+                    edge_u,
+                    edge_v,
+                    edge_weight,
+                    edge_obs,
+                    edge_p,
+                );
+            }
+            count
+        }
+        None => {
             write_edge(
-                e,
+                count,
                 u,
                 v,
                 p,
@@ -128,27 +138,12 @@ pub fn share(
                 edge_obs,
                 edge_p,
             );
-            return count;
+            let a = u as usize;
+            next[count] = first[a];
+            first[a] = count as u32;
+            count + 1
         }
-        return count;
     }
-    write_edge(
-        count,
-        u,
-        v,
-        p,
-        list,
-        observables,
-        edge_u,
-        edge_v,
-        edge_weight,
-        edge_obs,
-        edge_p,
-    );
-    let a = u as usize;
-    next[count] = first[a];
-    first[a] = count as u32;
-    count + 1
 }
 
 // The second end of an edge of d detectors: the boundary where there is one.
@@ -157,9 +152,10 @@ pub fn second_end(d: usize, at: usize, entries: &[u32]) -> u32
     ensures { result ≡ second_end d at entries.now }
 {
     if d < 2 {
-        return lent_graph::BOUNDARY;
+        lent_graph::BOUNDARY
+    } else {
+        entries[at + 1]
     }
-    entries[at + 1]
 }
 
 // A refusal leaves the tables of the edges zero.
@@ -171,15 +167,15 @@ pub fn zero_edges(
 )
     ensures { (edge_u.new ≡ replicate (length edge_u.old) 0) × (edge_v.new ≡ replicate (length edge_v.old) 0) × (edge_weight.new ≡ replicate (length edge_weight.old) (fin false 0 (pos 0))) × (edge_obs.new ≡ replicate (length edge_obs.old) 0) }
 {
-    tables::fill_u32(edge_u, 0);
-    tables::fill_u32(edge_v, 0);
-    tables::fill_f64(edge_weight, 0.0);
-    tables::fill_u64(edge_obs, 0);
+    edge_u.fill(0);
+    edge_v.fill(0);
+    edge_weight.fill(0.0);
+    edge_obs.fill(0);
 }
 
 // No end begins a chain.
 pub fn no_chains(first: &mut [u32])
     ensures { first.new ≡ replicate (length first.old) chain_end }
 {
-    tables::fill_u32(first, NONE);
+    first.fill(NONE);
 }

@@ -1,24 +1,24 @@
 -- Two rows with clear padding differ in an observable where their words do.
-use Prim.Native.Nat.{ℕ, ◌*◌, ◌≤◌, ◌<◌}
-use native.Mathlib.Omega.{arith}
-use mathlib.Core.Path.{◌≡◌, refl, sym, ap, ◌∙◌}
+use Prim.Native.Nat.{ℕ}
+use mathlib.Core.Path.{◌≡◌, sym, ◌∙◌}
 use mathlib.Core.List.{List}
-use mathlib.Core.Bool.{Bool, true, false, xor}
-use lib.Dec.{ltb}
-use lib.ListN.{length, get_or}
-use lib.Seq.{ext_get_or}
+use mathlib.Core.Bool.{true, false, not, xor}
+use lib.Dec.{eqb, ltb}
+use lib.ListN.{length}
+use lib.Pointwise.{pointwise}
 use borrow.Author.Tests.{ltb-true, ltb-false}
-use Rattle.lists.specs.Lists.{below, any}
+use Rattle.std.specs.Cmp.Lexicographic.{same_text, other_text}
+use Rattle.lists.specs.Lists.{below}
 use Rattle.lists.proofs.Truth.{case-of, xor_self, xor_is}
 use Rattle.lists.proofs.Members.{any_none, below_member}
 use Rattle.lists.proofs.Ranges.{from_any}
-use Rattle.bits.specs.Rows.{words, bit, is_clear, AreWords}
+use Rattle.bits.specs.Rows.{bit, is_clear, AreWords}
 use Rattle.bits.proofs.Rows.{same_bits, clear_bits}
 use Rattle.failures.specs.Failures.{differs}
 
 module _ (o : ℕ) (a b : List ℕ) where
   -- the same words: no observable differs
-  pub none_differs : a ≡ b → differs o a b ≡ false
+  none_differs : a ≡ b → differs o a b ≡ false
   unfolding differs below
   none_differs e = rw e (from_any (λ i. xor (bit b i) (bit b i)) o 0 (λ d p q. xor_self (bit b d)))
 
@@ -29,10 +29,8 @@ module _ (o : ℕ) (a b : List ℕ) where
         (λ t. sym (xor_is (bit a d) (bit b d) (any_none (λ i. xor (bit a i) (bit b i)) (below o) f d (below_member d o (ltb-true d o t)))))
         (λ g. clear_bits o a p d (ltb-false d o g) ∙ sym (clear_bits o b q d (ltb-false d o g))))
 
-    -- a word differs: so does an observable
-    pub one_differs : (i : ℕ) → (get_or a i 0 ≡ get_or b i 0 → ⊥) → differs o a b ≡ true
-    one_differs i n = case-of (differs o a b) (λ t. t) (λ f. absurd (n (ap (λ (l : List ℕ). get_or l i 0) (same_words f))))
-
--- each word is the same
-pub all_same : (a b : List ℕ) → length a ≡ length b → (n : ℕ) → length a ≤ n → ((i : ℕ) → i < n → get_or a i 0 ≡ get_or b i 0) → a ≡ b
-all_same a b e n h f = ext_get_or 0 a b e (λ i p. f i (omega arith))
+    -- they differ where the words do
+    pub words_differ : not (pointwise eqb a b) ≡ differs o a b
+    words_differ = case-of (pointwise eqb a b)
+        (λ t. rw (t, none_differs (same_text a b (sym t))))
+        (λ f. rw f (case-of (differs o a b) (λ t. sym t) (λ g. absurd (other_text a b (sym f) (same_words g)))))

@@ -1,4 +1,8 @@
 -- Failures and their rate: docs/RULES.md, "The rate" and "Refusals".
+use Rattle.failures.specs.declared.ErrorRate.{ErrorRate}
+use Rattle.failures.specs.declared.ErrorRate.TheVariants as error_rate
+use Rattle.std.specs.Prelude.{Result, Ok, Err}
+use Rattle.codes.specs.declared.Refusal.{Refusal}
 use Rattle.std.specs.Prelude.{ℕ, ◌+◌, ◌*◌, ◌≤◌, ◌<◌, ◌≡◌, List, [], ◌∷◌, Bool, true, cond, not, ◌&&◌, ◌||◌, eqb, pos, length, Float}
 use Rattle.std.specs.Bool.{xor}
 use Rattle.std.specs.Float.{binary64}
@@ -7,14 +11,10 @@ use Rattle.lists.specs.Lists.{below, filter, any}
 use Rattle.bits.specs.Rows.{words, bit, is_clear}
 use Rattle.codes.specs.Codes.{Sheet, refusal_row, success_row}
 use Rattle.codes.specs.declared.Refusal.TheVariants.{Shape}
-use Rattle.codes.specs.declared.Checked.{Checked}
-use Rattle.codes.specs.declared.Checked.TheVariants.{Accepted, Refused}
-use Rattle.codes.specs.Order.{refuse_if}
+use Rattle.codes.specs.Order.{Checked, refuse_if}
 use Rattle.codes.specs.Limits.{max_observables, max_shots}
 use Rattle.packed.specs.Packed.{row_at}
 use Rattle.weight.specs.Weight.{zero64}
-use Rattle.failures.specs.declared.ErrorRate.{ErrorRate}
-use Rattle.failures.specs.declared.ErrorRate.TheVariants as answer
 
 -- an observable differs between a predicted and a true row of O observables
 unfoldable pub differs : ℕ → List ℕ → List ℕ → Bool
@@ -36,18 +36,18 @@ shape_of o shots true_shots true_width = refuse_if (not (eqb true_shots shots &&
 
 -- the sheet's number and values for each case of the answer: the rate by its bits
 abbrev pub sheet_of : ErrorRate → Sheet
-sheet_of (answer.Rate rate) = success_row (to_bits binary64 rate ∷ [])
-sheet_of (answer.Refused r) = refusal_row r
+sheet_of (error_rate.Rate rate) = success_row (to_bits binary64 rate ∷ [])
+sheet_of (error_rate.Refused r) = refusal_row r
 
 -- and for what the call comes to
 abbrev pub call_row : Checked → Float → Sheet
-call_row (Refused r) rate = refusal_row r
-call_row Accepted rate = success_row (to_bits binary64 rate ∷ [])
+call_row (Err r) rate = refusal_row r
+call_row (Ok tt) rate = success_row (to_bits binary64 rate ∷ [])
 
 -- the rate where nothing refuses
 abbrev pub answer_of : Checked → Float → ErrorRate
-answer_of (Refused r) rate = answer.Refused r
-answer_of Accepted rate = answer.Rate rate
+answer_of (Err r) rate = error_rate.Refused r
+answer_of (Ok tt) rate = error_rate.Rate rate
 
 -- ---- rows that may be compared word by word
 

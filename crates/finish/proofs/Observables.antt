@@ -34,16 +34,10 @@ module _ {m w : ℕ} {obs row₀ list : List ℕ} {n : ℕ} (t : Edges m w obs r
   start_flip = record { is = refl; size = refl; to = omega arith }
 
   module _ {i : ℕ} {row : List ℕ} (k : Flipping m w obs row₀ list n i row) where
-    pub end_flip : n ≤ i → row ≡ flip_all w obs row₀ (take n list)
-    end_flip h = let q : i ≡ n = omega (arith, k.to) in k.is ∙ ap (λ j. flip_all w obs row₀ (take j list)) q
-
     module _ (h : i < n) where
       -- the edge
       abbrev e : ℕ
       e = get_or list i 0
-
-      pub within : e * w + w ≤ length obs
-      within = words_in m w e obs t.table (t.known i h)
 
       pub wide : length (words_of w obs e) ≡ w
       wide = words_wide m w e obs t.table (t.known i h)

@@ -9,11 +9,11 @@ use Rattle.lists.specs.Lists.{any, member}
 use Rattle.steps.specs.Graph.{Graph, edges}
 use Rattle.steps.specs.Growth.{State, leaves, first_stuck}
 use Rattle.lists.proofs.Truth.{case-of, same_eqb, or_intro}
-use Rattle.first_stuck.specs.FirstStuck.{named, first_shut}
+use Rattle.first_stuck.specs.FirstStuck.{first_shut}
 
 module _ (g : Graph) (lit : List Bool) (s : State) where
   pub stuck_is : (free : List Bool) (l : List ℕ) → ((q : ℕ) → member q l ≡ true → get_or free q false ≡ any (leaves g lit s q) (edges g))
-      → first_shut free l ≡ named (first_stuck g lit s l)
+      → first_shut free l ≡ first_stuck g lit s l
   unfolding first_shut first_stuck member
   stuck_is free [] h = refl
   stuck_is free (a ∷ l) h = rw (h a (rw (same_eqb a)))

@@ -1,4 +1,5 @@
 -- What the check of a lent graph leaves true: of its ends, its rows of observables and its weights.
+use Rattle.std.specs.Prelude.{Ok}
 use Prim.Native.Nat.{ℕ, ◌≤◌, ◌<◌}
 use native.Mathlib.Omega.{arith}
 use mathlib.Core.Path.{◌≡◌, refl}
@@ -13,7 +14,6 @@ use Rattle.lists.specs.Lists.{member}
 use Rattle.lists.proofs.Truth.{clash, and_left, and_right, or_cases}
 use Rattle.lists.proofs.Members.{below_member}
 use Rattle.bits.specs.Rows.{words, is_clear}
-use Rattle.codes.specs.declared.Checked.TheVariants.{Accepted}
 use Rattle.codes.specs.declared.Refusal.TheVariants.{Limit, Probability, Index}
 use Rattle.codes.specs.Order.{refuse_if, and_then}
 use Rattle.codes.proofs.Checks.{then_accepted, if_accepted}
@@ -29,7 +29,7 @@ record Fits (g : Graph) (e : ℕ) : Type 0 where
   weight : weight_fits (get_or g.edge_weight e nan) ≡ true
 
 module _ (g : Graph) where
-  edge_fits : (e : ℕ) → check_edge g e ≡ Accepted → Fits g e
+  edge_fits : (e : ℕ) → check_edge g e ≡ Ok tt → Fits g e
   unfolding check_edge
   edge_fits e h =
       let w = weight_fits (get_or g.edge_weight e nan) in
@@ -41,7 +41,7 @@ module _ (g : Graph) where
         weight = not-false w (if_accepted (not w) (Probability e) p);
       }
 
-  each_fits : (es : List ℕ) → check_edges g es ≡ Accepted → (e : ℕ) → member e es ≡ true → Fits g e
+  each_fits : (es : List ℕ) → check_edges g es ≡ Ok tt → (e : ℕ) → member e es ≡ true → Fits g e
   unfolding check_edges member
   each_fits [] h e m = clash m refl
   each_fits (a ∷ es) h e m =

@@ -1,10 +1,9 @@
 -- Demand 3: what is found of the decoder and the marker on every accepted graph.
+use Rattle.std.specs.Prelude.{Some}
 use Prim.Native.Nat.{ℕ}
-use native.Mathlib.Omega.{arith}
 use mathlib.Core.Path.{◌≡◌, refl, sym, ap, ◌∙◌}
 use mathlib.Core.List.{List, []}
 use mathlib.Core.Bool.{Bool, true}
-use mathlib.Core.Option.{some}
 use mathlib.Core.Logic.{◌⊎◌, inl, inr}
 use lib.ListN.{length}
 use Rattle.lists.specs.Lists.{member}
@@ -35,7 +34,7 @@ module _ (g : Graph) (lit : List Bool) where
       let q : m ≡ n = cc in
       let r : c ≡ d = cc in
       rw (← q, ← r) o
-  impossible_held (settled m s) o n d e = absurd (let z : ◌≡◌ {A = ℕ} 0 1 = cc in omega arith)
+  impossible_held (settled m s) o n d e = cc
   impossible_held short o n d e = absurd o
 
   -- a corrected one has settled
@@ -45,7 +44,7 @@ module _ (g : Graph) (lit : List Bool) where
 
   corrected_ended : (r : Growth) → Outcome g lit r → (n : ℕ) (l : List ℕ) → answer g lit r ≡ corrected n l → Ended n l
   unfolding answer
-  corrected_ended (stuck m c) o n l e = absurd (let z : ◌≡◌ {A = ℕ} 0 1 = cc in omega arith)
+  corrected_ended (stuck m c) o n l e = cc
   corrected_ended (settled m s) o n l e =
       let q : m ≡ n = cc in
       let r : peeled g s.saturated s.label lit ≡ l = cc in
@@ -60,7 +59,7 @@ module _ (g : Graph) (lit : List Bool) where
     unfolding decode
     stopped n d e = impossible_held (growth g lit) (outcome g lit ok) n d e
 
-    first : (n d : ℕ) → decode g lit ≡ impossible n d → first_stuck g lit (after g lit n) (after g lit n).active ≡ some d
+    first : (n d : ℕ) → decode g lit ≡ impossible n d → first_stuck g lit (after g lit n) (after g lit n).active ≡ Some d
     first n d e = turn_held g lit (after g lit n) d (stopped n d e).turned
 
     ended : (n : ℕ) (l : List ℕ) → decode g lit ≡ corrected n l → Ended n l

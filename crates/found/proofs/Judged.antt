@@ -1,10 +1,10 @@
 -- The marker passes exactly what explains the shot, and names the lowest wrong detector otherwise.
+use Rattle.std.specs.Prelude.{Option, None, Some}
 use Prim.Native.Nat.{ℕ, zero, suc, ◌+◌, ◌≤◌, ◌<◌}
 use native.Mathlib.Omega.{arith}
 use mathlib.Core.Path.{◌≡◌, refl, sym, ◌∙◌}
 use mathlib.Core.List.{List, [], ◌∷◌}
 use mathlib.Core.Bool.{Bool, true, false, xor}
-use mathlib.Core.Option.{Option, none, some, some-ne-none, none-ne-some, some-injective}
 use mathlib.Core.Logic.{⊎_elim}
 use lib.Dec.{eqb}
 use lib.ListN.{get_or}
@@ -26,14 +26,14 @@ module _ (g : Graph) (lit : List Bool) (es : List ℕ) where
 
   -- ---- the first wrong detector
 
-  wrong_none : (ds : List ℕ) → first_wrong g lit es ds ≡ none → (d : ℕ) → member d ds ≡ true → Right d
+  wrong_none : (ds : List ℕ) → first_wrong g lit es ds ≡ None → (d : ℕ) → member d ds ≡ true → Right d
   unfolding first_wrong member
   wrong_none [] h d m = clash m refl
   wrong_none (c ∷ ds) h d m = case-of (xor (get_or lit c false) (flipped g es c))
-      (λ t. absurd (some-ne-none c (rw t at h)))
+      (λ t. let w = rw t at h in cc)
       (λ f. ⊎_elim (λ u. rw (eqb-true d c u) (xor_is (get_or lit c false) (flipped g es c) f)) (λ u. wrong_none ds (rw f at h) d u) (or_cases (eqb d c) (member d ds) m))
 
-  none_wrong : (ds : List ℕ) → ((d : ℕ) → member d ds ≡ true → Right d) → first_wrong g lit es ds ≡ none
+  none_wrong : (ds : List ℕ) → ((d : ℕ) → member d ds ≡ true → Right d) → first_wrong g lit es ds ≡ None
   unfolding first_wrong member
   none_wrong [] h = refl
   none_wrong (c ∷ ds) h = rw (h c (rw (same_eqb c)), xor_self (get_or lit c false)) (none_wrong ds (λ d m. h d (or_intro (eqb d c) (member d ds) m)))
@@ -42,11 +42,12 @@ module _ (g : Graph) (lit : List Bool) (es : List ℕ) where
   abbrev First : ℕ → ℕ → ℕ → Type 0
   First n a d = (a ≤ d) × (d < n + a) × (Right d → ⊥) × ((c : ℕ) → a ≤ c → c < d → Right c)
 
-  first_wrong_lem : (n a d : ℕ) → first_wrong g lit es (from n a) ≡ some d → First n a d
+  first_wrong_lem : (n a d : ℕ) → first_wrong g lit es (from n a) ≡ Some d → First n a d
   unfolding first_wrong from
-  first_wrong_lem zero a d h = absurd (none-ne-some d h)
+  first_wrong_lem zero a d h = cc
   first_wrong_lem (suc n) a d h = case-of (xor (get_or lit a false) (flipped g es a))
-      (λ t. let q : a ≡ d = some-injective a d (rw t at h) in
+      (λ t. let w = rw t at h in
+      let q : a ≡ d = cc in
       let miss : Right a → ⊥ = λ r. clash t (rw (r, xor_self (get_or lit a false))) in
       (omega arith, omega arith, rw (← q) miss, λ c l m. absurd (omega arith)))
       (λ f. let (l, m, r, u) = first_wrong_lem n (suc a) d (rw f at h) in (
@@ -58,7 +59,7 @@ module _ (g : Graph) (lit : List Bool) (es : List ℕ) where
             (λ x. u c (omega (arith, eqb-false c a x)) j),
       ))
 
-  lowest_wrong : (d : ℕ) → wrong ≡ some d → (d < g.detectors) × (Right d → ⊥) × ((c : ℕ) → c < d → Right c)
+  lowest_wrong : (d : ℕ) → wrong ≡ Some d → (d < g.detectors) × (Right d → ⊥) × ((c : ℕ) → c < d → Right c)
   unfolding below
   lowest_wrong d h =
       let (l, m, r, u) = first_wrong_lem g.detectors 0 d h in
@@ -66,20 +67,20 @@ module _ (g : Graph) (lit : List Bool) (es : List ℕ) where
 
   -- ---- the verdict
 
-  no_wrong : (o : Option ℕ) (row : List ℕ) → verdict g es true o ≡ pass row → (o ≡ none) × (row ≡ row_of g es)
+  no_wrong : (o : Option ℕ) (row : List ℕ) → verdict g es true o ≡ pass row → (o ≡ None) × (row ≡ row_of g es)
   unfolding verdict
-  no_wrong none row e = (refl, cc)
-  no_wrong (some d) row e = absurd (let z : ◌≡◌ {A = ℕ} 0 1 = cc in omega arith)
+  no_wrong None row e = (refl, cc)
+  no_wrong (Some d) row e = cc
 
-  a_wrong : (o : Option ℕ) (d : ℕ) → verdict g es true o ≡ differs d → o ≡ some d
+  a_wrong : (o : Option ℕ) (d : ℕ) → verdict g es true o ≡ differs d → o ≡ Some d
   unfolding verdict
-  a_wrong none d e = cc
-  a_wrong (some c) d e = cc
+  a_wrong None d e = cc
+  a_wrong (Some c) d e = cc
 
   never_unfit : (o : Option ℕ) → verdict g es true o ≡ unfit → ⊥
   unfolding verdict
-  never_unfit none e = let z : ◌≡◌ {A = ℕ} 0 1 = cc in omega arith
-  never_unfit (some d) e = let z : ◌≡◌ {A = ℕ} 0 1 = cc in omega arith
+  never_unfit None e = cc
+  never_unfit (Some d) e = cc
 
   module _ (h : fit g es ≡ true) where
     marked : mark g lit es ≡ verdict g es true wrong

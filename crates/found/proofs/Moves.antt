@@ -1,10 +1,9 @@
 -- A round with an active cluster, none of them stuck, saturates a new edge.
+use Rattle.std.specs.Prelude.{Option, None, Some}
 use Prim.Native.Nat.{ℕ, ◌+◌, ◌<◌}
-use native.Mathlib.Omega.{arith}
 use mathlib.Core.Path.{◌≡◌, refl, sym, ◌∙◌}
 use mathlib.Core.List.{List, [], ◌∷◌}
 use mathlib.Core.Bool.{Bool, true, false, cond, not, ◌&&◌, ◌||◌}
-use mathlib.Core.Option.{Option, none, some, some-ne-none, some-injective, none-ne-some}
 use mathlib.Core.Logic.{⊎_elim}
 use lib.Dec.{eqb}
 use lib.ListN.{length, get_or}
@@ -19,47 +18,47 @@ use Rattle.lists.proofs.Members.{member_filter, member_below, any_some, get_d_be
 module _ (g : Graph) (lit : List Bool) where
   -- ---- the first stuck cluster
 
-  pub stuck_is : (s : State) (l : List ℕ) (d : ℕ) → first_stuck g lit s l ≡ some d → (member d l ≡ true) × (any (leaves g lit s d) (edges g) ≡ false)
+  pub stuck_is : (s : State) (l : List ℕ) (d : ℕ) → first_stuck g lit s l ≡ Some d → (member d l ≡ true) × (any (leaves g lit s d) (edges g) ≡ false)
   unfolding first_stuck member
-  stuck_is s [] d h = absurd (none-ne-some d h)
+  stuck_is s [] d h = cc
   stuck_is s (a ∷ l) d h = case-of (any (leaves g lit s a) (edges g))
       (λ t. let (m, f) = stuck_is s l d (rw t at h) in (or_intro (eqb d a) (member d l) m, f))
-      (λ f. let e = some-injective a d (rw f at h) in (rw (eq-eqb d a (sym e)), rw (← e) f))
+      (λ f. let w = rw f at h in let e : a ≡ d = cc in (rw (eq-eqb d a (sym e)), rw (← e) f))
 
-  none_stuck : (s : State) (a : ℕ) (l : List ℕ) → first_stuck g lit s (a ∷ l) ≡ none → any (leaves g lit s a) (edges g) ≡ true
+  none_stuck : (s : State) (a : ℕ) (l : List ℕ) → first_stuck g lit s (a ∷ l) ≡ None → any (leaves g lit s a) (edges g) ≡ true
   unfolding first_stuck
-  none_stuck s a l h = case-of (any (leaves g lit s a) (edges g)) (λ t. t) (λ f. absurd (some-ne-none a (rw f at h)))
+  none_stuck s a l h = case-of (any (leaves g lit s a) (edges g)) (λ t. t) (λ f. let w = rw f at h in cc)
 
   -- ---- what each turn tells
 
   ended_of : (l : List ℕ) (o : Option ℕ) → turn_of l o ≡ ended → l ≡ []
   unfolding turn_of
   ended_of [] o e = refl
-  ended_of (a ∷ l) (some d) e = cc
-  ended_of (a ∷ l) none e = cc
+  ended_of (a ∷ l) (Some d) e = cc
+  ended_of (a ∷ l) None e = cc
 
-  held_of : (l : List ℕ) (o : Option ℕ) (d : ℕ) → turn_of l o ≡ held d → o ≡ some d
+  held_of : (l : List ℕ) (o : Option ℕ) (d : ℕ) → turn_of l o ≡ held d → o ≡ Some d
   unfolding turn_of
   held_of [] o d e = cc
-  held_of (a ∷ l) (some c) d e = cc
-  held_of (a ∷ l) none d e = cc
+  held_of (a ∷ l) (Some c) d e = cc
+  held_of (a ∷ l) None d e = cc
 
-  onward_of : (a : ℕ) (l : List ℕ) (o : Option ℕ) → turn_of (a ∷ l) o ≡ onward → o ≡ none
+  onward_of : (a : ℕ) (l : List ℕ) (o : Option ℕ) → turn_of (a ∷ l) o ≡ onward → o ≡ None
   unfolding turn_of
-  onward_of a l (some d) e = cc
-  onward_of a l none e = refl
+  onward_of a l (Some d) e = cc
+  onward_of a l None e = refl
 
   pub turn_ended : (s : State) → turn g lit s ≡ ended → s.active ≡ []
   unfolding turn
   turn_ended s e = ended_of s.active (first_stuck g lit s s.active) e
 
-  pub turn_held : (s : State) (d : ℕ) → turn g lit s ≡ held d → first_stuck g lit s s.active ≡ some d
+  pub turn_held : (s : State) (d : ℕ) → turn g lit s ≡ held d → first_stuck g lit s s.active ≡ Some d
   unfolding turn
   turn_held s d e = held_of s.active (first_stuck g lit s s.active) d e
 
   turn_onward : (s : State) (l : List ℕ) → turn_of l (first_stuck g lit s l) ≡ onward → (a : ℕ) × (member a l ≡ true) × (any (leaves g lit s a) (edges g) ≡ true)
   unfolding turn_of member
-  turn_onward s [] e = absurd (let z : ◌≡◌ {A = ℕ} 0 1 = cc in omega arith)
+  turn_onward s [] e = cc
   turn_onward s (a ∷ l) e = (a, rw (same_eqb a), none_stuck s a l (onward_of a l (first_stuck g lit s (a ∷ l)) e))
 
   -- ---- the edge of the least

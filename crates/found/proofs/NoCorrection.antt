@@ -1,10 +1,10 @@
 -- A stuck cluster is a component of the graph: every edge flips an even number of its detectors, and an odd number of them is lit.
+use Rattle.std.specs.Prelude.{Some}
 use Prim.Native.Nat.{ℕ, ◌<◌}
 use native.Mathlib.Omega.{arith}
 use mathlib.Core.Path.{◌≡◌, refl, sym, ap, ◌∙◌}
 use mathlib.Core.List.{List}
 use mathlib.Core.Bool.{Bool, true, false, ◌&&◌, ◌||◌, xor}
-use mathlib.Core.Option.{some}
 use mathlib.Core.Logic.{⊎_elim}
 use lib.Dec.{eqb}
 use lib.ListN.{length, get_or}
@@ -22,7 +22,7 @@ use Rattle.found.proofs.Rounds.{Kept, of_live}
 use Rattle.found.proofs.Kept.{kept}
 use Rattle.found.proofs.Moves.{stuck_is}
 
-module _ (g : Graph) (ok : Ends g) (lit : List Bool) (n d : ℕ) (st : first_stuck g lit (after g lit n) (after g lit n).active ≡ some d) where
+module _ (g : Graph) (ok : Ends g) (lit : List Bool) (n d : ℕ) (st : first_stuck g lit (after g lit n) (after g lit n).active ≡ Some d) where
   abbrev s : State
   s = after g lit n
 

@@ -1,10 +1,10 @@
 -- The rounds finished are one number: where growth has ended, no further round is begun.
+use Rattle.std.specs.Prelude.{Option, None, Some}
 use Prim.Native.Nat.{ℕ, ◌<◌}
 use native.Mathlib.Omega.{arith}
 use mathlib.Core.Path.{◌≡◌}
 use mathlib.Core.List.{List, [], ◌∷◌}
 use mathlib.Core.Bool.{Bool}
-use mathlib.Core.Option.{Option, none, some}
 use lib.Dec.{ltb}
 use borrow.Author.Tests.{ltb-true, ltb-false}
 use Rattle.lists.proofs.Truth.{case-of}
@@ -15,14 +15,14 @@ use Rattle.steps.specs.Found.{Rounds, NoneActive, Halted, AllRounds, OneCount}
 -- a round is begun only where a cluster is active and none is stuck
 active_of : (l : List ℕ) (o : Option ℕ) → turn_of l o ≡ onward → l ≡ [] → ⊥
 unfolding turn_of
-active_of [] o e q = let z : ◌≡◌ {A = ℕ} 0 1 = cc in omega arith
-active_of (a ∷ l) o e q = let z : ◌≡◌ {A = ℕ} 0 1 = cc in omega arith
+active_of [] o e q = cc
+active_of (a ∷ l) o e q = cc
 
-free_of : (l : List ℕ) (o : Option ℕ) (d : ℕ) → turn_of l o ≡ onward → o ≡ some d → ⊥
+free_of : (l : List ℕ) (o : Option ℕ) (d : ℕ) → turn_of l o ≡ onward → o ≡ Some d → ⊥
 unfolding turn_of
-free_of [] o d e q = let z : ◌≡◌ {A = ℕ} 0 1 = cc in omega arith
-free_of (a ∷ l) none d e q = let z : ◌≡◌ {A = ℕ} 0 1 = cc in omega arith
-free_of (a ∷ l) (some c) d e q = let z : ◌≡◌ {A = ℕ} 0 1 = cc in omega arith
+free_of [] o d e q = cc
+free_of (a ∷ l) None d e q = cc
+free_of (a ∷ l) (Some c) d e q = cc
 
 module _ (g : Graph) (lit : List Bool) where
   by_none : (n : ℕ) → Rounds g lit n → NoneActive g lit n → AllRounds g lit n

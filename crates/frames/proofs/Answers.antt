@@ -1,10 +1,12 @@
 -- The numbers answer as the definition does.
-use Prim.Native.Nat.{ℕ, ◌+◌, ◌-◌, ◌*◌, ◌<◌}
+use Rattle.std.specs.Prelude.{Option, None, Some}
+use Rattle.std.specs.Prelude.{Result, Ok, Err}
+use Rattle.codes.specs.declared.Refusal.{Refusal}
+use Prim.Native.Nat.{ℕ, ◌+◌, ◌*◌, ◌<◌}
 use native.Mathlib.Omega.{arith}
 use mathlib.Core.Path.{◌≡◌, refl, sym, ap, ◌∙◌}
 use mathlib.Core.List.{List, [], ◌∷◌, ◌++◌}
 use mathlib.Core.Bool.{Bool, true, false, cond, ◌||◌}
-use mathlib.Core.Option.{Option, none, some}
 use lib.ListN.{length, take, drop, length-append}
 use lib.Dec.{eqb, ltb}
 use borrow.Author.Tests.{ltb-true, eqb-true}
@@ -16,8 +18,6 @@ use Rattle.dem.specs.Model.{Symptom}
 use Rattle.frames.specs.declared.Stage.{Stage}
 use Rattle.frames.specs.declared.Stage.TheVariants.{Nothing, InModel, BetweenShots, AfterRow}
 use Rattle.frames.specs.declared.State.{State}
-use Rattle.frames.specs.declared.Line.{Line}
-use Rattle.frames.specs.declared.Line.TheVariants.{Next, Refused}
 use Rattle.frames.specs.Frames.{Frame, header, mechanism, component, end, row, truth, when, kind_of, symptom_long, symptom_of, frame_of}
 use Rattle.frames.specs.Input.{Input, Read, next, refused, tables_read, in_order, after, over, held, read_frame, read_bytes, read_line}
 use Rattle.frames.specs.Counts.{counts_of, answer_of, count_after, capped, frame_line, line_of}
@@ -61,19 +61,19 @@ counts_after s (truth ws) h = refl
 -- ---- the kind of a component
 
 abbrev tag : Option Frame → ℕ
-tag none = 0
-tag (some (header D O)) = 1
-tag (some (mechanism p y)) = 2
-tag (some (component y)) = 3
-tag (some end) = 4
-tag (some (row ws)) = 5
-tag (some (truth ws)) = 6
+tag None = 0
+tag (Some (header D O)) = 1
+tag (Some (mechanism p y)) = 2
+tag (Some (component y)) = 3
+tag (Some end) = 4
+tag (Some (row ws)) = 5
+tag (Some (truth ws)) = 6
 
 -- a component's kind is 3
 abbrev Three : ℕ → Option Frame → Type 0
 Three k o = tag o ≡ 3 → k ≡ 3
 
-three_when : (k : ℕ) (b : Bool) (f : Frame) → (tag (some f) ≡ 3 → k ≡ 3) → Three k (when b f)
+three_when : (k : ℕ) (b : Bool) (f : Frame) → (tag (Some f) ≡ 3 → k ≡ 3) → Three k (when b f)
 three_when k true f h = h
 three_when k false f h = λ e. absurd (omega arith)
 
@@ -88,7 +88,7 @@ three D O l =
     cond_case (Three k) (eqb k 5) _ _ (λ _. three_when k (eqb (length l) (1 + 8 * words D)) (row (numbers 8 (words D) (drop 1 l))) (λ e. absurd (omega arith))) λ _.
     cond_case (Three k) (eqb k 6) _ _ (λ _. three_when k (eqb (length l) (1 + 8 * words O)) (truth (numbers 8 (words O) (drop 1 l))) (λ e. absurd (omega arith))) (λ _ e. absurd (omega arith))
 
-kind_component : (D O : ℕ) (l : List ℕ) (y : Symptom) → frame_of D O l ≡ some (component y) → kind_of l ≡ 3
+kind_component : (D O : ℕ) (l : List ℕ) (y : Symptom) → frame_of D O l ≡ Some (component y) → kind_of l ≡ 3
 kind_component D O l y e = three D O l (ap tag e)
 
 pub order_component : (st : Stage) (n : ℕ) → in_order st n 3 ≡ true → 0 < n
@@ -102,7 +102,7 @@ order_component InModel n h = ltb-true 0 n (or_nothing (ltb 0 n) h)
 order_component BetweenShots n h = clash h refl
 order_component AfterRow n h = clash h refl
 
-pub follows : (s : Input) (l : List ℕ) (f : Frame) → in_order s.stage (length s.mechanisms) (kind_of l) ≡ true → frame_of s.detectors s.observables l ≡ some f → Follows s f
+pub follows : (s : Input) (l : List ℕ) (f : Frame) → in_order s.stage (length s.mechanisms) (kind_of l) ≡ true → frame_of s.detectors s.observables l ≡ Some f → Follows s f
 follows s l (header D O) h e = tt
 follows s l (mechanism p y) h e = tt
 follows s l (component y) h e =
@@ -116,15 +116,15 @@ follows s l (truth ws) h e = tt
 held_answer : (t : Input) → capped (counts_of t) ≡ answer_of (held t)
 held_answer t = go (over t)
   where
-    go : (b : Bool) → cond b (Refused refusal.Limit) (Next (counts_of t)) ≡ answer_of (cond b (refused refusal.Limit) (next t))
+    go : (b : Bool) → cond b (Err refusal.Limit) (Ok (counts_of t)) ≡ answer_of (cond b (refused refusal.Limit) (next t))
     go true = refl
     go false = refl
 
-frame_answer : (s : Input) (o : Option Frame) → ((f : Frame) → o ≡ some f → Follows s f) → frame_line (counts_of s) o ≡ answer_of (read_frame s o)
-frame_answer s none h = refl
-frame_answer s (some f) h = ap capped (sym (counts_after s f (h f refl))) ∙ held_answer (after s f)
+frame_answer : (s : Input) (o : Option Frame) → ((f : Frame) → o ≡ Some f → Follows s f) → frame_line (counts_of s) o ≡ answer_of (read_frame s o)
+frame_answer s None h = refl
+frame_answer s (Some f) h = ap capped (sym (counts_after s f (h f refl))) ∙ held_answer (after s f)
 
-answer_cond : (b : Bool) (l : Line) (r : Read) → (b ≡ true → l ≡ answer_of r) → cond b l (Refused refusal.Frame) ≡ answer_of (cond b r (refused refusal.Frame))
+answer_cond : (b : Bool) (l : Result State Refusal) (r : Read) → (b ≡ true → l ≡ answer_of r) → cond b l (Err refusal.Frame) ≡ answer_of (cond b r (refused refusal.Frame))
 answer_cond true l r h = h refl
 answer_cond false l r h = refl
 
@@ -134,7 +134,7 @@ answers s line =
     let l = bytes_of line in
     let o = frame_of s.detectors s.observables l in
     let order = in_order s.stage (length s.mechanisms) (kind_of l) in
-    answer_cond (is_hex line) (cond order (frame_line (counts_of s) o) (Refused refusal.Frame)) (read_bytes s l)
+    answer_cond (is_hex line) (cond order (frame_line (counts_of s) o) (Err refusal.Frame)) (read_bytes s l)
     (λ hex. answer_cond order (frame_line (counts_of s) o) (read_frame s o) (λ h. frame_answer s o (λ f e. follows s l f h e)))
 
 -- ---- what is read is held
@@ -147,8 +147,8 @@ held_within s t = go (over s) refl
     go false p e = let q : s ≡ t = cc in rw (← q) p
 
 frame_within : (s t : Input) (o : Option Frame) → read_frame s o ≡ next t → over t ≡ false
-frame_within s t none e = let z : ◌≡◌ {A = ℕ} 0 1 = cc in absurd (omega arith)
-frame_within s t (some f) e = held_within (after s f) t e
+frame_within s t None e = let z : ◌≡◌ {A = ℕ} 0 1 = cc in absurd (omega arith)
+frame_within s t (Some f) e = held_within (after s f) t e
 
 cond_next : (b : Bool) (r : Read) (t : Input) → cond b r (refused refusal.Frame) ≡ next t → r ≡ next t
 cond_next true r t e = e

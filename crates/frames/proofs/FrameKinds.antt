@@ -1,11 +1,13 @@
 -- Frames by their kind, and the facts that tests on the numbers and on lengths give.
-use Prim.Native.Nat.{ℕ, ◌+◌, ◌-◌, ◌*◌, ◌≤◌}
+use Rattle.std.specs.Prelude.{None}
+use Rattle.std.specs.Prelude.{Err}
+use Prim.Native.Nat.{ℕ, ◌+◌, ◌*◌, ◌≤◌}
 use native.Mathlib.Nat.{add-zero}
 use native.Mathlib.Omega.{arith}
+use mathlib.Core.Logic.{◌≢◌}
 use mathlib.Core.Path.{◌≡◌, refl, sym, ap, ap₂, ◌∙◌}
 use mathlib.Core.List.{List}
-use mathlib.Core.Bool.{Bool, true, false, cond, ◌||◌}
-use mathlib.Core.Option.{none}
+use mathlib.Core.Bool.{Bool, true, false, cond}
 use lib.ListN.{length, get_or, take, drop, length-drop, get_or-eq_default}
 use lib.Seq.{get_or-drop}
 use lib.Dec.{eqb, ltb}
@@ -17,9 +19,10 @@ use Rattle.bits.specs.Rows.{words}
 use Rattle.frames.specs.declared.Stage.{Stage}
 use Rattle.frames.specs.declared.Stage.TheVariants.{Nothing, InModel, BetweenShots, AfterRow}
 use Rattle.frames.specs.declared.State.{State}
-use Rattle.frames.specs.declared.Line.TheVariants.{Refused}
 use Rattle.codes.specs.declared.Refusal.TheVariants as refusal
-use Rattle.frames.specs.Frames.{Frame, header, mechanism, component, end, row, truth, kind_of, symptom_long, symptom_of, when, frame_of}
+use Rattle.frames.specs.declared.Kind.{Kind}
+use Rattle.frames.specs.declared.Kind.TheVariants as kind
+use Rattle.frames.specs.Frames.{kind_byte, Frame, header, mechanism, component, end, row, truth, kind_of, symptom_long, symptom_of, when, frame_of}
 use Rattle.frames.specs.Input.{in_order}
 use Rattle.frames.specs.Counts.{size_of, over_counts, count_after, capped, frame_line}
 
@@ -50,18 +53,32 @@ module _ (D O : ℕ) (l : List ℕ) where
   unfolding frame_of
   frame_6 h = rw h
 
-  pub frame_none : (k : ℕ) → kind_of l ≡ k → (k ≡ 1 → ⊥) → (k ≡ 2 → ⊥) → (k ≡ 3 → ⊥) → (k ≡ 4 → ⊥) → (k ≡ 5 → ⊥) → (k ≡ 6 → ⊥) → frame_of D O l ≡ none
+  pub frame_none : ((k : Kind) → kind_byte k ≢ kind_of l) → frame_of D O l ≡ None
   unfolding frame_of
-  frame_none k h a b c d e f = rw (h, ne_eqb k 1 a, ne_eqb k 2 b, ne_eqb k 3 c, ne_eqb k 4 d, ne_eqb k 5 e, ne_eqb k 6 f)
+  frame_none h =
+      rw (not kind.Header, not kind.Mechanism, not kind.Component, not kind.End, not kind.Row, not kind.Truth)
+    where
+      not : (k : Kind) → eqb (kind_of l) (kind_byte k) ≡ false
+      not k = ne_eqb (kind_of l) (kind_byte k) (λ e. h k (sym e))
 
 -- ---- order
 
-pub order_none : (st : Stage) (n : ℕ) → in_order st n 0 ≡ false
+-- no frame comes whose first byte names no kind
+pub order_none : (st : Stage) (n b : ℕ) → ((k : Kind) → kind_byte k ≢ b) → in_order st n b ≡ false
 unfolding in_order
-order_none Nothing n = refl
-order_none InModel n = refl
-order_none BetweenShots n = refl
-order_none AfterRow n = refl
+order_none Nothing n b h = ne_eqb b 1 (λ e. h kind.Header (sym e))
+order_none InModel n b h = rw (ne_eqb b 2 (λ e. h kind.Mechanism (sym e)), ne_eqb b 3 (λ e. h kind.Component (sym e)), ne_eqb b 4 (λ e. h kind.End (sym e)))
+order_none BetweenShots n b h = ne_eqb b 5 (λ e. h kind.Row (sym e))
+order_none AfterRow n b h = ne_eqb b 6 (λ e. h kind.Truth (sym e))
+
+-- an empty line has none
+pub none_empty : (k : Kind) → kind_byte k ≢ 0
+none_empty kind.Header e = absurd (omega arith)
+none_empty kind.Mechanism e = absurd (omega arith)
+none_empty kind.Component e = absurd (omega arith)
+none_empty kind.End e = absurd (omega arith)
+none_empty kind.Row e = absurd (omega arith)
+none_empty kind.Truth e = absurd (omega arith)
 
 pub kind_none : (l : List ℕ) → length l ≡ 0 → kind_of l ≡ 0
 kind_none l h = get_or-eq_default l 0 {n = 0} (omega arith)
@@ -116,10 +133,14 @@ module _ (l : List ℕ) (i : ℕ) where
 
 -- ---- others
 
-pub or_false : (b : Bool) → (b || false) ≡ b
-or_false true = refl
-or_false false = refl
-
-pub line_when : (n : State) (f : Frame) (t : Bool) → frame_line n (when t f) ≡ cond t (capped (count_after n f)) (Refused refusal.Frame)
+pub line_when : (n : State) (f : Frame) (t : Bool) → frame_line n (when t f) ≡ cond t (capped (count_after n f)) (Err refusal.Frame)
 line_when n f true = refl
 line_when n f false = refl
+
+-- ---- for the calls that read a line
+
+pub ruleset by_kind = (frame_1, frame_2, frame_3, frame_4, frame_5, frame_6, line_when, held_of)
+
+pub ruleset no_kind = (kind_none, none_empty, order_none)
+
+pub ruleset by_symptom = (size_is, long_test)

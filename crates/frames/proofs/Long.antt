@@ -1,10 +1,10 @@
 -- A line that is too long for any frame.
-use Prim.Native.Nat.{ℕ, zero, suc, ◌+◌, ◌-◌, ◌*◌, ◌/◌, ◌%◌, ◌<◌, ◌≤◌}
+use Rattle.std.specs.Prelude.{Option, None}
+use Prim.Native.Nat.{ℕ, zero, suc, ◌+◌, ◌-◌, ◌*◌, ◌%◌, ◌<◌, ◌≤◌}
 use native.Mathlib.Omega.{arith}
-use mathlib.Core.Path.{◌≡◌, refl, sym, ap, ◌∙◌}
+use mathlib.Core.Path.{◌≡◌, refl, ap}
 use mathlib.Core.Bool.{Bool, true, false, cond}
 use mathlib.Core.List.{List, [], ◌∷◌}
-use mathlib.Core.Option.{Option, none, some}
 use lib.ListN.{length, get_or, take, drop}
 use lib.Dec.{eqb}
 use borrow.Author.Tests.{eqb-true, ne_eqb}
@@ -14,9 +14,9 @@ use Rattle.bits.specs.Rows.{words}
 use Rattle.hex_text.specs.Hex.{between, digit_value, is_hex, all_digits, bytes_of, number, numbers}
 use Rattle.hex_text.proofs.Bytes.{between_facts, byte_count}
 use Rattle.frames.specs.Frames.{Frame, header, mechanism, component, end, row, truth, frame_of, kind_of, symptom_long, symptom_of, when}
-use Rattle.frames.specs.Input.{Input, Read, next, refused, over, in_order, read_frame, read_bytes, read_line}
+use Rattle.frames.specs.Input.{Input, Read, refused, over, in_order, read_frame, read_bytes, read_line}
 use Rattle.frames.specs.Counts.{counts_of}
-use Rattle.frames.proofs.FrameKinds.{Held, held_of, long_not}
+use Rattle.frames.proofs.FrameKinds.{held_of, long_not}
 use Rattle.frames.specs.LineLaws.{longest}
 
 -- ---- a byte
@@ -35,17 +35,17 @@ byte_small (a ∷ b ∷ l) (suc i) = byte_small l i
 
 -- ---- no frame
 
-when_not : (b : Bool) (f : Frame) → b ≡ false → when b f ≡ none
+when_not : (b : Bool) (f : Frame) → b ≡ false → when b f ≡ None
 when_not b f h = rw h refl
 
 abbrev Missing : Option Frame → Type 0
-Missing o = o ≡ none
+Missing o = o ≡ None
 
 module _ (D O : ℕ) (l : List ℕ) (small : (i : ℕ) → get_or l i 0 < 256) (long : 1031 < length l) (fewD : D ≤ 256) (fewO : O ≤ 128) where
   too_big : (i : ℕ) → i ≤ 9 → symptom_long (drop i l) ≡ false
   too_big i h = long_not l i (λ e. omega (arith, e, long, h, small i, small (i + 1)))
 
-  no_frame : frame_of D O l ≡ none
+  no_frame : frame_of D O l ≡ None
   unfolding frame_of words
   no_frame =
       let k = kind_of l in

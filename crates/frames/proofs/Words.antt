@@ -1,12 +1,12 @@
 -- The words of a row and of true observables.
+use Rattle.std.specs.Prelude.{Option, None, Some}
 use Prim.Native.Nat.{ℕ, ◌+◌, ◌*◌}
 use native.Mathlib.Omega.{arith}
-use mathlib.Core.Path.{◌≡◌, refl, sym, ap, ◌∙◌}
-use mathlib.Core.Bool.{Bool, true, false, cond, ◌||◌, ◌&&◌}
+use mathlib.Core.Path.{◌≡◌, refl, sym, ◌∙◌}
+use mathlib.Core.Bool.{Bool, true, false, cond}
 use mathlib.Core.List.{List}
-use mathlib.Core.Option.{Option, none, some}
 use lib.ListN.{length, take, drop}
-use lib.Dec.{eqb, ltb}
+use lib.Dec.{eqb}
 use Rattle.lists.proofs.Truth.{clash, cond_case}
 use Rattle.codes.specs.declared.Refusal.TheVariants as refusal
 use Rattle.bits.specs.Rows.{words}
@@ -22,15 +22,15 @@ use Rattle.frames.specs.LineLaws.{RowRead, ShotRead}
 -- ---- the words of a frame
 
 abbrev Exact : ℕ → ℕ → Option Frame → Type 0
-Exact D O none = Unit
-Exact D O (some (header d o)) = Unit
-Exact D O (some (mechanism p y)) = Unit
-Exact D O (some (component y)) = Unit
-Exact D O (some end) = Unit
-Exact D O (some (row ws)) = length ws ≡ words D
-Exact D O (some (truth ws)) = length ws ≡ words O
+Exact D O None = Unit
+Exact D O (Some (header d o)) = Unit
+Exact D O (Some (mechanism p y)) = Unit
+Exact D O (Some (component y)) = Unit
+Exact D O (Some end) = Unit
+Exact D O (Some (row ws)) = length ws ≡ words D
+Exact D O (Some (truth ws)) = length ws ≡ words O
 
-exact_when : (D O : ℕ) (b : Bool) (f : Frame) → Exact D O (some f) → Exact D O (when b f)
+exact_when : (D O : ℕ) (b : Bool) (f : Frame) → Exact D O (Some f) → Exact D O (when b f)
 exact_when D O true f h = h
 exact_when D O false f h = tt
 
@@ -51,7 +51,7 @@ exact D O l =
 record Took (s t : Input) (l : List ℕ) : Type 0 where
   pub order : in_order s.stage (length s.mechanisms) (kind_of l) ≡ true
   pub frame : Frame
-  pub reads : frame_of s.detectors s.observables l ≡ some frame
+  pub reads : frame_of s.detectors s.observables l ≡ Some frame
   pub after : t ≡ after s frame
 
 no_next : {A : Type 0} {t : Input} → refused refusal.Frame ≡ next t → A
@@ -70,8 +70,8 @@ held_next s t = go (over s)
 
 took_frame : (s t : Input) (l : List ℕ) → in_order s.stage (length s.mechanisms) (kind_of l) ≡ true
     → (o : Option Frame) → frame_of s.detectors s.observables l ≡ o → read_frame s o ≡ next t → Took s t l
-took_frame s t l h none p e = no_next e
-took_frame s t l h (some f) p e = record { order = h; frame = f; reads = p; after = held_next (after s f) t e }
+took_frame s t l h None p e = no_next e
+took_frame s t l h (Some f) p e = record { order = h; frame = f; reads = p; after = held_next (after s f) t e }
 
 took : (s t : Input) (line : List ℕ) → read_line s line ≡ next t → Took s t (bytes_of line)
 unfolding read_line
@@ -89,7 +89,7 @@ no_stage st a b = let z : ◌≡◌ {A = ℕ} 0 1 = cc in absurd (omega arith)
 no_between : {A : Type 0} (st : Stage) → st ≡ AfterRow → st ≡ BetweenShots → A
 no_between st a b = let z : ◌≡◌ {A = ℕ} 0 1 = cc in absurd (omega arith)
 
-row_after_lem : (s : Input) (f : Frame) → Exact s.detectors s.observables (some f) → RowRead (after s f)
+row_after_lem : (s : Input) (f : Frame) → Exact s.detectors s.observables (Some f) → RowRead (after s f)
 unfolding after
 row_after_lem s (header D O) x = λ e. no_stage InModel e refl
 row_after_lem s (mechanism p y) x = λ e. no_stage InModel e refl
@@ -111,8 +111,8 @@ after_row InModel n h = clash h refl
 after_row BetweenShots n h = clash h refl
 after_row AfterRow n h = refl
 
-shot_after : (s : Input) (D O : ℕ) (l : List ℕ) (f : Frame) → length s.row ≡ words s.detectors → Exact s.detectors s.observables (some f)
-    → (b : Bool) (ws : List ℕ) → when b (truth ws) ≡ some f → ShotRead s (after s f)
+shot_after : (s : Input) (D O : ℕ) (l : List ℕ) (f : Frame) → length s.row ≡ words s.detectors → Exact s.detectors s.observables (Some f)
+    → (b : Bool) (ws : List ℕ) → when b (truth ws) ≡ Some f → ShotRead s (after s f)
 unfolding after
 shot_after s D O l f r x false ws e = let z : ◌≡◌ {A = ℕ} 0 1 = cc in absurd (omega arith)
 shot_after s D O l f r x true ws e = let q : truth ws ≡ f = cc in rw (← q) (record { row = r; truth = rw (← q) at x })

@@ -1,7 +1,7 @@
 -- The example of docs/RULES.md, "Frames", and cases at the edges, by computation.
+use Rattle.std.specs.Prelude.{Ok, Err}
 use Rattle.std.specs.Prelude.{ℕ, ◌≡◌, refl, List, [], ◌∷◌, ◌++◌}
 use Rattle.codes.specs.declared.Refusal.TheVariants as refusal
-use Rattle.codes.specs.declared.Checked.TheVariants.{Accepted, Refused}
 use Rattle.hex_text.specs.Hex.{text_of}
 use Rattle.frames.specs.declared.Stage.TheVariants.{InModel, BetweenShots}
 use Rattle.frames.specs.Input.{Given, Input, next, refused, start, read_line, meaning_of}
@@ -43,11 +43,11 @@ holding g = record { stage = InModel; detectors = 2; observables = 1; mechanisms
 -- takes `row-long` for a row.
 pub record Cases : Type 0 where
   -- with the last line feed and without
-  pub example : meaning_of (example_text ++ (10 ∷ [])) ≡ record { input = example_input; ends = Accepted }
-  pub unended : meaning_of example_text ≡ record { input = example_input; ends = Accepted }
+  pub example : meaning_of (example_text ++ (10 ∷ [])) ≡ record { input = example_input; ends = (Ok tt) }
+  pub unended : meaning_of example_text ≡ record { input = example_input; ends = (Ok tt) }
   -- an input of no lines, and one that ends after the header
-  pub empty : meaning_of [] ≡ record { input = start; ends = Refused refusal.Frame }
-  pub header_only : meaning_of (text_of (1 ∷ 0 ∷ 2 ∷ 0 ∷ 1 ∷ [])) ≡ record { input = begun 2 1; ends = Refused refusal.Frame }
+  pub empty : meaning_of [] ≡ record { input = start; ends = Err refusal.Frame }
+  pub header_only : meaning_of (text_of (1 ∷ 0 ∷ 2 ∷ 0 ∷ 1 ∷ [])) ≡ record { input = begun 2 1; ends = Err refusal.Frame }
   -- an empty line
   pub empty_line : read_line start [] ≡ refused refusal.Frame
   -- 256 detectors are held and 257 are not; a line of the wrong length is 3 before 1

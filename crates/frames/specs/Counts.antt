@@ -1,13 +1,13 @@
 -- The reader's numbers: what a line does to them.
+use Rattle.std.specs.Prelude.{Option, None, Some}
+use Rattle.std.specs.Prelude.{Result, Ok, Err}
+use Rattle.codes.specs.declared.Refusal.{Refusal}
 use Rattle.std.specs.Prelude.{ℕ, ◌+◌, List, Bool, cond, length}
-use Rattle.std.proofs.Math.Option.{Option, none, some}
 use Rattle.codes.specs.declared.Refusal.TheVariants as refusal
 use Rattle.hex_text.specs.Hex.{is_hex, bytes_of}
 use Rattle.dem.specs.Model.{Symptom}
 use Rattle.frames.specs.declared.Stage.TheVariants.{InModel, BetweenShots, AfterRow}
 use Rattle.frames.specs.declared.State.{State}
-use Rattle.frames.specs.declared.Line.{Line}
-use Rattle.frames.specs.declared.Line.TheVariants.{Next, Refused}
 use Rattle.frames.specs.Frames.{Frame, header, mechanism, component, end, row, truth, frame_of, kind_of}
 use Rattle.frames.specs.Input.{Input, Read, next, refused, tables_read, in_order, over_capacity}
 
@@ -22,9 +22,9 @@ counts_of s = record {
   entries = length (tables_read s.mechanisms).entries;
 }
 
-abbrev pub answer_of : Read → Line
-answer_of (next s) = Next (counts_of s)
-answer_of (refused r) = Refused r
+abbrev pub answer_of : Read → Result State Refusal
+answer_of (next s) = Ok (counts_of s)
+answer_of (refused r) = Err r
 
 abbrev pub size_of : Symptom → ℕ
 size_of y = length y.detectors + length y.observables
@@ -76,17 +76,17 @@ count_after n (truth ws) = record {
 abbrev pub over_counts : State → Bool
 over_counts n = over_capacity n.detectors n.observables n.mechanisms n.components n.entries
 
-abbrev pub capped : State → Line
-capped n = cond (over_counts n) (Refused refusal.Limit) (Next n)
+abbrev pub capped : State → Result State Refusal
+capped n = cond (over_counts n) (Err refusal.Limit) (Ok n)
 
-abbrev pub frame_line : State → Option Frame → Line
-frame_line n none = Refused refusal.Frame
-frame_line n (some f) = capped (count_after n f)
+abbrev pub frame_line : State → Option Frame → Result State Refusal
+frame_line n None = Err refusal.Frame
+frame_line n (Some f) = capped (count_after n f)
 
 -- the answer to a line, by the numbers
-unfoldable pub line_of : State → List ℕ → Line
+unfoldable pub line_of : State → List ℕ → Result State Refusal
 unfolding is_hex bytes_of in_order frame_of count_after
 line_of n line =
     cond (is_hex line)
-    (cond (in_order n.stage n.mechanisms (kind_of (bytes_of line))) (frame_line n (frame_of n.detectors n.observables (bytes_of line))) (Refused refusal.Frame))
-    (Refused refusal.Frame)
+    (cond (in_order n.stage n.mechanisms (kind_of (bytes_of line))) (frame_line n (frame_of n.detectors n.observables (bytes_of line))) (Err refusal.Frame))
+    (Err refusal.Frame)

@@ -1,12 +1,12 @@
 -- What an input says, line by line: docs/RULES.md, "Frames".
-use Rattle.std.specs.Prelude.{ℕ, ◌+◌, List, [], ◌∷◌, ◌++◌, map, Bool, cond, ◌&&◌, ◌||◌, length, eqb, ltb}
-use Rattle.std.proofs.Math.Option.{Option, none, some}
+use Rattle.std.specs.Prelude.{Option, None, Some}
+use Rattle.codes.specs.Order.{Checked}
+use Rattle.std.specs.Prelude.{Ok, Err}
+use Rattle.std.specs.Prelude.{ℕ, List, [], ◌∷◌, ◌++◌, map, Bool, cond, ◌&&◌, ◌||◌, length, eqb, ltb}
 use Rattle.std.specs.Float.Ieee as Ieee
 use Rattle.std.specs.Float.{binary64}
 use Rattle.codes.specs.declared.Refusal.{Refusal}
 use Rattle.codes.specs.declared.Refusal.TheVariants as refusal
-use Rattle.codes.specs.declared.Checked.{Checked}
-use Rattle.codes.specs.declared.Checked.TheVariants.{Accepted, Refused}
 use Rattle.codes.specs.Limits.{max_observables}
 use Rattle.hex_text.specs.Hex.{is_hex, bytes_of}
 use Rattle.dem.specs.Model.{Symptom, ErrorMechanism}
@@ -137,8 +137,8 @@ abbrev pub held : Input → Read
 held s = cond (over s) (refused refusal.Limit) (next s)
 
 abbrev pub read_frame : Input → Option Frame → Read
-read_frame s none = refused refusal.Frame
-read_frame s (some f) = held (after s f)
+read_frame s None = refused refusal.Frame
+read_frame s (Some f) = held (after s f)
 
 abbrev pub read_bytes : Input → List ℕ → Read
 read_bytes s l = cond (in_order s.stage (length s.mechanisms) (kind_of l)) (read_frame s (frame_of s.detectors s.observables l)) (refused refusal.Frame)
@@ -152,10 +152,10 @@ read_line s line = cond (is_hex line) (read_bytes s (bytes_of line)) (refused re
 
 -- "input ending before 04 or after a 05 is 3"
 abbrev pub at_end : Stage → Checked
-at_end Nothing = Refused refusal.Frame
-at_end InModel = Refused refusal.Frame
-at_end BetweenShots = Accepted
-at_end AfterRow = Refused refusal.Frame
+at_end Nothing = Err refusal.Frame
+at_end InModel = Err refusal.Frame
+at_end BetweenShots = (Ok tt)
+at_end AfterRow = Err refusal.Frame
 
 -- what was read before the first refusal, and how the input ends
 pub record Meaning : Type 0 where
@@ -164,7 +164,7 @@ pub record Meaning : Type 0 where
 
 abbrev pub go_on : Input → Read → (Input → Meaning) → Meaning
 go_on s (next t) rest = rest t
-go_on s (refused r) rest = record { input = s; ends = Refused r }
+go_on s (refused r) rest = record { input = s; ends = Err r }
 
 -- all lines, one after another
 unfoldable pub read_lines : Input → List (List ℕ) → Meaning

@@ -1,4 +1,6 @@
 -- A compiled graph passes the check of a lent one.
+use Rattle.codes.specs.Order.{Checked}
+use Rattle.std.specs.Prelude.{Ok, Err}
 use Prim.Native.Nat.{ℕ, zero, suc, ◌≤◌, ◌<◌}
 use native.Mathlib.Omega.{arith}
 use mathlib.Core.Path.{◌≡◌, refl, sym, ap, ◌∙◌}
@@ -16,13 +18,12 @@ use Rattle.bits.specs.Rows.{words, is_clear, row_of_bits}
 use Rattle.bits.proofs.Booleans.{row_clear}
 use Rattle.weight.specs.Weight.{weight_of}
 use Rattle.weight.proofs.Laws.{laws}
-use Rattle.codes.specs.declared.Checked.{Checked}
-use Rattle.codes.specs.declared.Checked.TheVariants.{Accepted, Refused}
 use Rattle.codes.specs.Limits.{check_counts, max_detectors, max_observables, max_mechanisms}
-use Rattle.steps.specs.Graph.{Graph, boundary, edges}
+use Rattle.steps.specs.Graph.{Graph, boundary}
 use Rattle.steps.specs.Call.{ends_fit, observables_fit, check_edge, check_edges, AcceptedGraph}
 use Rattle.lent_graph.specs.Lent.{ends_of}
-use Rattle.lent_graph.proofs.Edges.{any_default, length_map, not_not}
+use Rattle.lent_graph.proofs.Edges.{not_not}
+use Rattle.std.proofs.lemmas.List.{get_or_default, length-map}
 use Rattle.dem.specs.Model.{ErrorMechanism, check_mechanism}
 use Rattle.dem.specs.Laws.{Fits}
 use Rattle.dem.proofs.Accepted.{mechanism_fits}
@@ -71,8 +72,8 @@ module _ (d : ℕ) where
     next_good i m (into es) g = go (check_mechanism d o i m) refl
       where
         go : (c : Checked) → check_mechanism d o i m ≡ c → GoodIn (join_next i m es c)
-        go (Refused x) e = tt
-        go Accepted e = cond_case GoodIn (is_zero m.probability) _ _ (λ t. g) (λ f. by_good i m es m.symptom.detectors (mechanism_fits d o i m e).symptom.detectors g)
+        go (Err x) e = tt
+        go (Ok tt) e = cond_case GoodIn (is_zero m.probability) _ _ (λ t. g) (λ f. by_good i m es m.symptom.detectors (mechanism_fits d o i m e).symptom.detectors g)
 
     from_good : (i : ℕ) (ms : List ErrorMechanism) (r : Edges) → GoodIn r → GoodIn (edges_from d o i ms r)
     unfolding edges_from
@@ -84,21 +85,21 @@ module _ (d : ℕ) where
     compile_good ms = from_good 0 ms (into []) tt
 
   good_at : (es : List Edge) (e : ℕ) → Good es → e < length es → ends_of d (get_or es e blank).u (get_or es e blank).v ≡ true
-  good_at [] e g h = let z : ⊥ = omega arith in absurd z
+  good_at [] e g h = absurd (omega arith)
   good_at (x ∷ es) zero (a, b) h = a
   good_at (x ∷ es) (suc e) (a, b) h = good_at es e b (omega arith)
 
 pub map_at : {A : Type 0} (f : Edge → A) (es : List Edge) (e : ℕ) (z : A) → e < length es → get_or (map f es) e z ≡ f (get_or es e blank)
-map_at f es e z h = any_default (map f es) e z (f blank) (rw (length_map f es) h) ∙ get_or-map f es e blank
+map_at f es e z h = get_or_default (map f es) e z (f blank) (rw (length-map es f) h) ∙ get_or-map f es e blank
 
 row_fits : (o : ℕ) (obs : List ℕ) → is_clear o (obs_row o obs) ≡ true
 unfolding obs_row
 row_fits o obs =
     let l = map (λ j. member j obs) (below o) in
-    let n : length l ≡ o = length_map (λ j. member j obs) (below o) ∙ length_below o in
+    let n : length l ≡ o = length-map (below o) (λ j. member j obs) ∙ length_below o in
     ap (λ (k : ℕ). is_clear k (row_of_bits (words o) l)) (sym n) ∙ row_clear (words o) l
 
-edge_accepted : (d o : ℕ) (es : List Edge) (e : ℕ) → Good d es → e < length es → check_edge (graph_by d o es) e ≡ Accepted
+edge_accepted : (d o : ℕ) (es : List Edge) (e : ℕ) → Good d es → e < length es → check_edge (graph_by d o es) e ≡ Ok tt
 unfolding check_edge ends_fit observables_fit graph_by ends_of
 edge_accepted d o es e g h =
     let x = get_or es e blank in
@@ -115,12 +116,12 @@ edge_accepted d o es e g h =
       laws.passes x.probability,
     )
 
-all_accepted : (g : Graph) (l : List ℕ) → ((e : ℕ) → member e l ≡ true → check_edge g e ≡ Accepted) → check_edges g l ≡ Accepted
+all_accepted : (g : Graph) (l : List ℕ) → ((e : ℕ) → member e l ≡ true → check_edge g e ≡ Ok tt) → check_edges g l ≡ Ok tt
 unfolding check_edges member
 all_accepted g [] h = refl
 all_accepted g (e ∷ l) h = rw (h e (rw (same_eqb e))) (all_accepted g l (λ x m. h x (or_intro (eqb x e) (member x l) m)))
 
-counts_accepted : (d o n : ℕ) → d ≤ max_detectors → o ≤ max_observables → n ≤ max_mechanisms → check_counts d o n ≡ Accepted
+counts_accepted : (d o n : ℕ) → d ≤ max_detectors → o ≤ max_observables → n ≤ max_mechanisms → check_counts d o n ≡ Ok tt
 unfolding check_counts
 counts_accepted d o n a b c = rw (le-ltb max_detectors d a, le-ltb max_observables o b, le-ltb max_mechanisms n c)
 
@@ -129,11 +130,11 @@ unfolding graph_by
 accepted d o ms es w =
     let good : Good d es = rw w.edges at (compile_good d o ms) in
     let few : length es ≤ length ms = omega (arith, ap (λ (r : Edges). length (edges_in r)) w.edges, edges_few d o ms) in
-    let n : length (map (λ (e : Edge). e.u) es) ≡ length es = length_map (λ e. e.u) es in
+    let n : length (map (λ (e : Edge). e.u) es) ≡ length es = length-map es (λ e. e.u) in
     record {
       limits = rw n (counts_accepted d o (length es) w.detectors w.observables (let k = w.mechanisms in omega arith));
-      ends_table = length_map (λ e. e.v) es ∙ sym n;
-      weight_table = length_map (λ e. weight_of e.probability) es ∙ sym n;
-      obs_table = length_map (λ e. obs_row o e.observables) es ∙ sym n;
+      ends_table = length-map es (λ e. e.v) ∙ sym n;
+      weight_table = length-map es (λ e. weight_of e.probability) ∙ sym n;
+      obs_table = length-map es (λ e. obs_row o e.observables) ∙ sym n;
       passes = rw n (all_accepted (graph_by d o es) (below (length es)) (λ e m. edge_accepted d o es e good (member_below e (length es) m)));
     }

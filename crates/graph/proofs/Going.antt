@@ -1,4 +1,5 @@
 -- The edges of the first mechanisms, and of one more.
+use Rattle.std.specs.Prelude.{Result, Ok, Err}
 use Prim.Native.Nat.{ℕ, suc, ◌+◌, ◌-◌, ◌*◌, ◌≤◌, ◌<◌}
 use native.Mathlib.Omega.{arith}
 use native.Mathlib.Nat.{zero-add, suc-mul, mul-le-mul_right}
@@ -6,20 +7,17 @@ use mathlib.Core.Path.{◌≡◌, refl, sym, ap, subst, ◌∙◌}
 use mathlib.Core.List.{List, [], ◌∷◌, ◌++◌}
 use mathlib.Core.Bool.{true, ◌&&◌, not}
 use lib.Dec.{eqb, leb}
-use lib.Ieee as Ieee
 use lib.ListN.{length, replicate, get_or-replicate, length-replicate}
 use borrow.Author.Tests.{leb-true}
 use Rattle.lists.proofs.Truth.{cond_case, and_left, and_right}
 use Rattle.bits.specs.Rows.{words}
 use Rattle.lent_graph.specs.Lent.{tables_long}
 use Rattle.lent_graph.proofs.Laws.{long}
-use Rattle.codes.specs.Order.{refuse_if}
+use Rattle.codes.specs.Order.{Checked, refuse_if}
 use Rattle.codes.specs.Limits.{check_counts, max_detectors, max_observables, max_mechanisms}
 use Rattle.codes.specs.declared.Refusal.TheVariants.{Short}
 use Rattle.codes.proofs.Checks.{then_accepted, unless_accepted, counts_within}
 use Rattle.codes.specs.declared.Refusal.{Refusal}
-use Rattle.codes.specs.declared.Checked.{Checked}
-use Rattle.codes.specs.declared.Checked.TheVariants.{Accepted, Refused}
 use Rattle.dem.specs.declared.Mechanism.{Mechanism}
 use Rattle.dem.specs.declared.Place.{Place}
 use Rattle.dem.specs.Model.{ErrorMechanism, check_mechanism}
@@ -27,12 +25,10 @@ use Rattle.dem.specs.Tables.{Tables, model_of, tables_hold}
 use Rattle.dem.specs.Positions.{head_of, mechanism_at, place_of, tables_from}
 use Rattle.dem.proofs.Positions.{model_split, first_from}
 use Rattle.dem.proofs.Laws.{count, split, place_first}
-use Rattle.graph.specs.declared.Compiled.{Compiled}
-use Rattle.graph.specs.declared.Compiled.TheVariants as compiled
-use Rattle.edges.specs.Compile.{Edge, Edges, into, refused, share, join_by, is_zero, join_next, next, edges_from, compile}
+use Rattle.edges.specs.Compile.{Edge, Edges, into, refused, share, join_by, is_zero, join_next, next as next_edges, edges_from, compile}
 use Rattle.edges.specs.Chains.{chain_end, last_with, Chained}
 use Rattle.edges.specs.Tables.{Slices, filled, Room}
-use Rattle.graph.specs.Outcome.{slices_long, check_slices, Joined, Joins, ChainedBy}
+use Rattle.graph.specs.Outcome.{slices_long, check_slices, Joined, Joins}
 
 abbrev pub edges_in : Edges → List Edge
 edges_in (into es) = es
@@ -53,19 +49,19 @@ by_few i m es (a ∷ []) = share_few _ es
 by_few i m es (a ∷ b ∷ []) = share_few _ es
 by_few i m es (a ∷ b ∷ c ∷ l) = omega arith
 
-next_few : (d o i : ℕ) (m : ErrorMechanism) (r : Edges) → length (edges_in (next d o i m r)) ≤ suc (length (edges_in r))
+next_few : (d o i : ℕ) (m : ErrorMechanism) (r : Edges) → length (edges_in (next_edges d o i m r)) ≤ suc (length (edges_in r))
 unfolding join_next
 next_few d o i m (refused x) = omega arith
 next_few d o i m (into es) = go (check_mechanism d o i m)
   where
     go : (c : Checked) → length (edges_in (join_next i m es c)) ≤ suc (length es)
-    go (Refused x) = omega arith
-    go Accepted = cond_case (λ (r : Edges). length (edges_in r) ≤ suc (length es)) (is_zero m.probability) _ _ (λ t. omega arith) (λ f. by_few i m es m.symptom.detectors)
+    go (Err x) = omega arith
+    go (Ok tt) = cond_case (λ (r : Edges). length (edges_in r) ≤ suc (length es)) (is_zero m.probability) _ _ (λ t. omega arith) (λ f. by_few i m es m.symptom.detectors)
 
 from_few : (d o i : ℕ) (ms : List ErrorMechanism) (r : Edges) → length (edges_in (edges_from d o i ms r)) ≤ length (edges_in r) + length ms
 unfolding edges_from
 from_few d o i [] r = omega arith
-from_few d o i (m ∷ ms) r = omega (arith, from_few d o (suc i) ms (next d o i m r), next_few d o i m r)
+from_few d o i (m ∷ ms) r = omega (arith, from_few d o (suc i) ms (next_edges d o i m r), next_few d o i m r)
 
 -- no more edges than mechanisms
 pub edges_few : (d o : ℕ) (ms : List ErrorMechanism) → length (edges_in (compile d o ms)) ≤ length ms
@@ -77,7 +73,7 @@ edges_few d o ms = omega (arith, from_few d o 0 ms (into []))
 from_append : (d o i : ℕ) (xs ys : List ErrorMechanism) (r : Edges) → edges_from d o i (xs ++ ys) r ≡ edges_from d o (length xs + i) ys (edges_from d o i xs r)
 unfolding edges_from
 from_append d o i [] ys r = rw (zero-add i)
-from_append d o i (x ∷ xs) ys r = let e : suc (length xs) + i ≡ length xs + suc i = omega arith in rw e (from_append d o (suc i) xs ys (next d o i x r))
+from_append d o i (x ∷ xs) ys r = let e : suc (length xs) + i ≡ length xs + suc i = omega arith in rw e (from_append d o (suc i) xs ys (next_edges d o i x r))
 
 from_refused : (d o i : ℕ) (ms : List ErrorMechanism) (x : Refusal) → edges_from d o i ms (refused x) ≡ refused x
 unfolding edges_from
@@ -89,7 +85,7 @@ module _ (d o : ℕ) (t : Tables) where
   abbrev pub mechanism : ℕ → ErrorMechanism
   mechanism i = mechanism_at (head_of i t) (place_of i t) t.component_detectors t.component_observables t.entries
 
-  pub compile_next : (i : ℕ) → compile d o (model_of (i + 1) t) ≡ next d o i (mechanism i) (compile d o (model_of i t))
+  pub compile_next : (i : ℕ) → compile d o (model_of (i + 1) t) ≡ next_edges d o i (mechanism i) (compile d o (model_of i t))
   unfolding compile edges_from model_of
   compile_next i =
       let e : length (model_of i t) + 0 ≡ i = omega (arith, count i t) in
@@ -103,9 +99,8 @@ module _ (d o : ℕ) (t : Tables) where
       ∙ ap (edges_from d o (length (model_of (i + 1) t) + 0) (model_of (n - (i + 1)) (tables_from (i + 1) t))) e
       ∙ from_refused d o (length (model_of (i + 1) t) + 0) (model_of (n - (i + 1)) (tables_from (i + 1) t)) x
 
-  -- the loop, past i of n mechanisms
-  pub record Going (n : ℕ) (was : Slices) (i : ℕ) (place : Place) (many : ℕ) (out : Slices) (first next : List ℕ) : Type 0 where
-    pub here : i ≤ n
+  -- the loop, past i mechanisms
+  pub record Going (was : Slices) (i : ℕ) (place : Place) (many : ℕ) (out : Slices) (first next : List ℕ) : Type 0 where
     pub at : place ≡ place_of i t
     pub into_edges : compile d o (model_of i t) ≡ into (edges_in (compile d o (model_of i t)))
     pub as_many : many ≡ length (edges_in (compile d o (model_of i t)))
@@ -117,14 +112,13 @@ module _ (d o : ℕ) (t : Tables) where
   no_edges u v first next k = record {
     few = omega arith;
     starts = λ a l. get_or-replicate k a chain_end 0 (rw (length-replicate k chain_end) at l);
-    goes_on = λ e l. let z : ⊥ = omega arith in absurd z;
-    distinct = λ i j l m. let z : ⊥ = omega arith in absurd z;
+    goes_on = λ e l. absurd (omega arith);
+    distinct = λ i j l m. absurd (omega arith);
   }
 
-  pub going_first : (n : ℕ) (was : Slices) (k : ℕ) (first next : List ℕ) → first ≡ replicate k chain_end → Going n was 0 (record { component = 0; entry = 0 }) 0 was first next
+  pub going_first : (was : Slices) (k : ℕ) (first next : List ℕ) → first ≡ replicate k chain_end → Going was 0 (record { component = 0; entry = 0 }) 0 was first next
   unfolding compile edges_from model_of filled
-  going_first n was k first next e = record {
-    here = omega arith;
+  going_first was k first next e = record {
     at = sym (place_first t);
     into_edges = refl;
     as_many = refl;
@@ -132,48 +126,52 @@ module _ (d o : ℕ) (t : Tables) where
     chained = rw e (no_edges was.edge_u was.edge_v first next k);
   }
 
-  module _ (n i : ℕ) (was out : Slices) (h : i < n) where
-    -- a refusal is the answer
-    pub stopped : (r : Compiled) (y : Refusal) (e : Edges) → compile d o (model_of (i + 1) t) ≡ e → r ≡ compiled.Refused y → Joined o e r was out → Joined o (compile d o (model_of n t)) r was out
-    stopped r y (into es) e q (a, b) = let z : ◌≡◌ {A = ℕ} 0 1 = cc in absurd (omega arith)
-    stopped r y (refused x) e q a = rw (compile_refused i n x h e) a
-
-    -- edges go on
-    pub went : (r : Compiled) (k : ℕ) (place : Place) (first next : List ℕ) (e : Edges) → compile d o (model_of (i + 1) t) ≡ e → r ≡ compiled.Edges k → Joined o e r was out
-        → ChainedBy r out first next → place ≡ place_of (i + 1) t → Going n was (i + 1) place k out first next
-    went r k place first next (refused x) e q a c p = let z : ◌≡◌ {A = ℕ} 0 1 = cc in absurd (omega arith)
-    went r k place first next (into es) e q (a, b) c p =
-        let m : edges_in (compile d o (model_of (i + 1) t)) ≡ es = ap edges_in e in
-        let j : compiled.Edges k ≡ compiled.Edges (length es) = sym q ∙ a in
-        let l : k ≡ length es = cc in
-        record {
-          here = omega arith;
-          at = p;
-          into_edges = e ∙ ap into (sym m);
-          as_many = l ∙ ap length (sym m);
-          tables = b ∙ ap (λ (es' : List Edge). filled o es' was) (sym m);
-          chained = subst (λ (r' : Compiled). ChainedBy r' out first next) q c;
-        }
-
-  pub ended : (n i many : ℕ) (was out : Slices) (place : Place) (first next : List ℕ) → Going n was i place many out first next → n ≤ i
-      → Joined o (compile d o (model_of n t)) (compiled.Edges many) was out
-  ended n i many was out place first next g h =
-      let k : n ≡ i = (let b = g.here in omega arith) in
-      rw (k, g.into_edges) (ap compiled.Edges g.as_many, g.tables)
-
+module _ {d o : ℕ} {t : Tables} {was out : Slices} {i many : ℕ} {place : Place} {first next : List ℕ} (g : Going d o t was i place many out first next) where
   -- what the next mechanism finds
-  pub joined_next : (n i many : ℕ) (was out exit : Slices) (h : Mechanism) (place : Place) (first next : List ℕ) (r : Compiled) → Going n was i place many out first next → h ≡ head_of i t
-      → Joins o many (λ es. join_next i (mechanism_at h place t.component_detectors t.component_observables t.entries) es (check_mechanism d o i (mechanism_at h place t.component_detectors t.component_observables t.entries))) r out exit
+  joined_next : (exit : Slices) (h : Mechanism) (r : Result ℕ Refusal) → h ≡ head_of i t
+      → Joins o many (λ es. next_edges d o i (mechanism_at h place t.component_detectors t.component_observables t.entries) (into es)) r out exit
       → Joined o (compile d o (model_of (i + 1) t)) r was exit
-  joined_next n i many was out exit h place first next r g e j =
+  joined_next exit h r e j =
       let es = edges_in (compile d o (model_of i t)) in
-      let m : mechanism_at h place t.component_detectors t.component_observables t.entries ≡ mechanism i = rw (e, g.at) in
-      let k : Joins o many (λ es. join_next i (mechanism i) es (check_mechanism d o i (mechanism i))) r out exit
-      = subst (λ (m : ErrorMechanism). Joins o many (λ es. join_next i m es (check_mechanism d o i m)) r out exit) m j in
-      rw (compile_next i, g.into_edges) (k es was (sym g.as_many) g.tables)
+      let m : mechanism_at h place t.component_detectors t.component_observables t.entries ≡ mechanism d o t i = rw (e, g.at) in
+      let k : Joins o many (λ es. next_edges d o i (mechanism d o t i) (into es)) r out exit
+      = subst (λ (m : ErrorMechanism). Joins o many (λ es. next_edges d o i m (into es)) r out exit) m j in
+      rw (compile_next d o t i, g.into_edges) (k es was (sym g.as_many) g.tables)
 
-  pub many_few : (n i many : ℕ) (was out : Slices) (place : Place) (first next : List ℕ) → Going n was i place many out first next → many ≤ i
-  many_few n i many was out place first next g = omega (arith, g.as_many, edges_few d o (model_of i t), count i t)
+  -- a refusal is the answer
+  pub stopped : (n : ℕ) (exit : Slices) (h : Mechanism) (y : Refusal) → i < n → h ≡ head_of i t
+      → Joins o many (λ es. next_edges d o i (mechanism_at h place t.component_detectors t.component_observables t.entries) (into es)) (Err y) out exit
+      → Joined o (compile d o (model_of n t)) (Err y) was exit
+  stopped n exit h y l e j = go (compile d o (model_of (i + 1) t)) refl (joined_next exit h (Err y) e j)
+    where
+      go : (e : Edges) → compile d o (model_of (i + 1) t) ≡ e → Joined o e (Err y) was exit → Joined o (compile d o (model_of n t)) (Err y) was exit
+      go (into es) q (a, b) = cc
+      go (refused x) q a = rw (compile_refused d o t i n x l q) a
+
+  -- edges go on
+  pub went : (exit : Slices) (h : Mechanism) (k : ℕ) (past : Place) (first' next' : List ℕ) → h ≡ head_of i t
+      → Joins o many (λ es. next_edges d o i (mechanism_at h place t.component_detectors t.component_observables t.entries) (into es)) (Ok k) out exit
+      → Chained k exit.edge_u exit.edge_v first' next' → past ≡ place_of (i + 1) t → Going d o t was (i + 1) past k exit first' next'
+  went exit h k past first' next' e j c p = go (compile d o (model_of (i + 1) t)) refl (joined_next exit h (Ok k) e j)
+    where
+      go : (e : Edges) → compile d o (model_of (i + 1) t) ≡ e → Joined o e (Ok k) was exit → Going d o t was (i + 1) past k exit first' next'
+      go (refused x) q a = cc
+      go (into es) q (a, b) =
+          let m : edges_in (compile d o (model_of (i + 1) t)) ≡ es = ap edges_in q in
+          let l : k ≡ length es = cc in
+          record {
+            at = p;
+            into_edges = q ∙ ap into (sym m);
+            as_many = l ∙ ap length (sym m);
+            tables = b ∙ ap (λ (es' : List Edge). filled o es' was) (sym m);
+            chained = c;
+          }
+
+  pub ended : (n : ℕ) → n ≡ i → Joined o (compile d o (model_of n t)) (Ok many) was out
+  ended n e = rw (e, g.into_edges) (ap Ok g.as_many, g.tables)
+
+  pub many_few : many ≤ i
+  many_few = omega (arith, g.as_many, edges_few d o (model_of i t), count i t)
 
 -- ---- long enough
 
@@ -190,7 +188,15 @@ pub record Held (d o m : ℕ) (t : Tables) (out : Slices) (first next : List ℕ
   pub starts : d ≤ length first
   pub chains : m ≤ length next
 
-pub held : (d o m : ℕ) (t : Tables) (out : Slices) (first next : List ℕ) → check_slices d o m t out first next ≡ Accepted → Held d o m t out first next
+-- tables of the same lengths
+pub record Alike (was out : Slices) : Type 0 where
+  pub ends : length out.edge_u ≡ length was.edge_u
+  pub others : length out.edge_v ≡ length was.edge_v
+  pub weights : length out.edge_weight ≡ length was.edge_weight
+  pub rows : length out.edge_obs ≡ length was.edge_obs
+  pub probabilities : length out.edge_p ≡ length was.edge_p
+
+pub held : (d o m : ℕ) (t : Tables) (out : Slices) (first next : List ℕ) → check_slices d o m t out first next ≡ Ok tt → Held d o m t out first next
 unfolding check_slices slices_long
 held d o m t out first next h =
     let hold = tables_hold m t in
@@ -219,25 +225,15 @@ held d o m t out first next h =
       chains = leb-true m (length next) (and_right f n r);
     }
 
--- the slices keep their lengths
-pub record Alike (was out : Slices) (first₀ first next₀ next : List ℕ) : Type 0 where
-  pub ends : length out.edge_u ≡ length was.edge_u
-  pub others : length out.edge_v ≡ length was.edge_v
-  pub weights : length out.edge_weight ≡ length was.edge_weight
-  pub rows : length out.edge_obs ≡ length was.edge_obs
-  pub probabilities : length out.edge_p ≡ length was.edge_p
-  pub starts : length first ≡ length first₀
-  pub chains : length next ≡ length next₀
-
-pub room : (d o m many : ℕ) (t : Tables) (was out : Slices) (start first₀ first next₀ next : List ℕ) → Held d o m t was start next₀ → Alike was out first₀ first next₀ next → many < m → Room o many out next
-room d o m many t was out start first₀ first next₀ next h a l =
-    record {
-      observables = h.observables;
-      few = omega arith;
-      ends = omega arith;
-      others = omega arith;
-      weights = omega arith;
-      rows = omega (arith, mul-le-mul_right (words o) l, suc-mul many (words o));
-      probabilities = omega arith;
-      chains = omega arith;
-    }
+-- a place for one edge more
+pub room : {d o m : ℕ} {t : Tables} {was out : Slices} {start next₀ next : List ℕ} (many : ℕ) → Held d o m t was start next₀ → many < m → Alike was out → length next ≡ length next₀ → Room o many out next
+room {o = o} many h l a n = record {
+  observables = h.observables;
+  few = omega arith;
+  ends = omega arith;
+  others = omega arith;
+  weights = omega arith;
+  rows = omega (arith, mul-le-mul_right (words o) l, suc-mul many (words o));
+  probabilities = omega arith;
+  chains = omega arith;
+}

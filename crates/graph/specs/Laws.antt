@@ -1,14 +1,13 @@
 -- What holds of a compiled graph. Statements only: proofs/Laws.antt proves them.
+use Rattle.std.specs.Prelude.{Ok}
 use Rattle.std.specs.Prelude.{ℕ, ◌≤◌, ◌≡◌, List, false, pos, Float, length}
 use Rattle.std.specs.Float.{fin}
-use Rattle.codes.specs.declared.Checked.TheVariants.{Accepted}
 use Rattle.codes.specs.Limits.{max_detectors, max_observables, max_mechanisms}
 use Rattle.dem.specs.Model.{ErrorMechanism}
 use Rattle.dem.specs.Tables.{Tables}
 use Rattle.steps.specs.Call.{graph_of, AcceptedGraph}
 use Rattle.lent_graph.specs.Lent.{check_lent}
 use Rattle.edges.specs.Compile.{Edge, into, compile, graph_by}
-use Rattle.graph.specs.declared.Compiled.TheVariants as compiled
 use Rattle.edges.specs.Tables.{Slices, flat}
 use Rattle.graph.specs.Outcome.{table_left, outcome, Compiles}
 
@@ -41,7 +40,7 @@ pub record Laws : Type 0 where
       → graph_of d o (length es) (left_u d o es u) (left_v d o es v) (left_weight d o es weight) (left_obs d o es obs) ≡ graph_by d o es
   -- and pass the check of a lent graph
   pub passes : (d o : ℕ) (ms : List ErrorMechanism) (es : List Edge) (u v : List ℕ) (weight : List Float) (obs : List ℕ) → Within d o ms es
-      → check_lent d o (length es) (left_u d o es u) (left_v d o es v) (left_weight d o es weight) (left_obs d o es obs) ≡ Accepted
+      → check_lent d o (length es) (left_u d o es u) (left_v d o es v) (left_weight d o es weight) (left_obs d o es obs) ≡ Ok tt
   -- so whoever is answered with n edges has been left an accepted graph of n edges
-  pub answered : (d o m : ℕ) (t : Tables) (entry : Slices) (first next : List ℕ) (n : ℕ) (exit : Slices) → Compiles d o (outcome d o m t entry first next) (compiled.Edges n) entry exit
+  pub answered : (d o m : ℕ) (t : Tables) (entry : Slices) (first next : List ℕ) (n : ℕ) (exit : Slices) → Compiles d o (outcome d o m t entry first next) (Ok n) entry exit
       → AcceptedGraph (graph_of d o n exit.edge_u exit.edge_v exit.edge_weight exit.edge_obs)

@@ -1,16 +1,14 @@
 -- What a call of `from_model` comes to: docs/RULES.md, "Refusals".
+use Rattle.std.specs.Prelude.{Result, Ok, Err}
+use Rattle.codes.specs.declared.Refusal.{Refusal}
 use Rattle.std.specs.Prelude.{ℕ, ◌≡◌, List, [], ◌∷◌, Bool, false, not, ◌&&◌, leb, pos, length, replicate}
 use Rattle.std.specs.Float.{fin}
 use Rattle.codes.specs.Codes.{Sheet, refusal_row, success_row}
 use Rattle.codes.specs.declared.Refusal.TheVariants.{Short}
-use Rattle.codes.specs.declared.Checked.{Checked}
-use Rattle.codes.specs.declared.Checked.TheVariants.{Accepted, Refused}
-use Rattle.codes.specs.Order.{refuse_if, and_then}
+use Rattle.codes.specs.Order.{Checked, refuse_if, and_then}
 use Rattle.codes.specs.Limits.{check_counts}
 use Rattle.dem.specs.Tables.{Tables, model_of, tables_hold, written}
 use Rattle.lent_graph.specs.Lent.{tables_long}
-use Rattle.graph.specs.declared.Compiled.{Compiled}
-use Rattle.graph.specs.declared.Compiled.TheVariants as compiled
 use Rattle.edges.specs.Compile.{Edge, Edges, into, refused, compile, graph_by}
 use Rattle.edges.specs.Tables.{Slices, flat, filled}
 use Rattle.edges.specs.Chains.{Chained}
@@ -18,9 +16,9 @@ use Rattle.edges.specs.Chains.{Chained}
 -- ---- the answer, and what is left
 
 -- the sheet's number and values for each case of the answer: how many edges
-abbrev pub sheet_of : Compiled → Sheet
-sheet_of (compiled.Edges n) = success_row (n ∷ [])
-sheet_of (compiled.Refused r) = refusal_row r
+abbrev pub sheet_of : Result ℕ Refusal → Sheet
+sheet_of (Ok n) = success_row (n ∷ [])
+sheet_of (Err r) = refusal_row r
 
 -- and for what the call comes to
 unfoldable pub call_row : Edges → Sheet
@@ -28,9 +26,9 @@ call_row (into es) = success_row (length es ∷ [])
 call_row (refused r) = refusal_row r
 
 -- edges: how many; or the refusal
-unfoldable pub answer_of : Edges → Compiled
-answer_of (into es) = compiled.Edges (length es)
-answer_of (refused r) = compiled.Refused r
+unfoldable pub answer_of : Edges → Result ℕ Refusal
+answer_of (into es) = Ok (length es)
+answer_of (refused r) = Err r
 
 -- a table of the graph: its column, then the old contents; after a refusal zero, whole
 unfoldable pub table_left : {A : Type 0} → A → (List Edge → List A) → Edges → List A → List A
@@ -52,8 +50,8 @@ unfolding check_counts tables_hold slices_long
 check_slices d o m t out first next = and_then (check_counts d o m) (refuse_if (not (tables_hold m t && slices_long d o m out first next)) Short)
 
 abbrev pub only_then : Checked → Edges → Edges
-only_then Accepted r = r
-only_then (Refused x) r = refused x
+only_then (Ok tt) r = r
+only_then (Err x) r = refused x
 
 -- then per mechanism in order
 unfoldable pub outcome : ℕ → ℕ → ℕ → Tables → Slices → List ℕ → List ℕ → Edges
@@ -61,7 +59,7 @@ unfolding check_slices compile model_of
 outcome d o m t out first next = only_then (check_slices d o m t out first next) (compile d o (model_of m t))
 
 -- the answer and every table of the graph; the scratch slices may hold anything
-pub record Compiles (d o : ℕ) (e : Edges) (r : Compiled) (entry exit : Slices) : Type 0 where
+pub record Compiles (d o : ℕ) (e : Edges) (r : Result ℕ Refusal) (entry exit : Slices) : Type 0 where
   pub sheet : sheet_of r ≡ call_row e
   pub answer : r ≡ answer_of e
   pub ends : exit.edge_u ≡ table_left 0 (λ es. (graph_by d o es).edge_u) e entry.edge_u
@@ -72,15 +70,15 @@ pub record Compiles (d o : ℕ) (e : Edges) (r : Compiled) (entry exit : Slices)
 -- ---- on the way
 
 -- edges in the tables and their number as the answer; or the refusal
-abbrev pub Joined : ℕ → Edges → Compiled → Slices → Slices → Type 0
-Joined o (into es) r was exit = (r ≡ compiled.Edges (length es)) × (exit ≡ filled o es was)
-Joined o (refused x) r was exit = r ≡ compiled.Refused x
+abbrev pub Joined : ℕ → Edges → Result ℕ Refusal → Slices → Slices → Type 0
+Joined o (into es) r was exit = (r ≡ Ok (length es)) × (exit ≡ filled o es was)
+Joined o (refused x) r was exit = r ≡ Err x
 
 -- where the n edges at the front of the tables are es, what is joined to them is `next es`
-abbrev pub Joins : ℕ → ℕ → (List Edge → Edges) → Compiled → Slices → Slices → Type 0
+abbrev pub Joins : ℕ → ℕ → (List Edge → Edges) → Result ℕ Refusal → Slices → Slices → Type 0
 Joins o n next r entry exit = (es : List Edge) (was : Slices) → length es ≡ n → entry ≡ filled o es was → Joined o (next es) r was exit
 
 -- the edges are in their chains
-abbrev pub ChainedBy : Compiled → Slices → List ℕ → List ℕ → Type 0
-ChainedBy (compiled.Edges n) t first next = Chained n t.edge_u t.edge_v first next
-ChainedBy (compiled.Refused r) t first next = Unit {0}
+abbrev pub ChainedBy : Result ℕ Refusal → Slices → List ℕ → List ℕ → Type 0
+ChainedBy (Ok n) t first next = Chained n t.edge_u t.edge_v first next
+ChainedBy (Err r) t first next = Unit {0}

@@ -3,23 +3,14 @@
 
 ghost use Rattle.std.specs.Prelude.{◌≡◌, false, ◌&&◌, ◌+◌, ◌<◌, ◌≤◌, leb, pos, length, replicate};
 ghost use Rattle.std.specs.Float.{fin};
-ghost use Rattle.codes.specs.declared.Checked.TheVariants.{Accepted};
-ghost use Rattle.dem.specs.Tables.{model_of};
 ghost use Rattle.dem.specs.Positions.{tables, mechanism_at, Inside};
-ghost use Rattle.edges.specs.Compile.{into, next as nextEdges, compile};
+ghost use Rattle.edges.specs.Compile.{into, next as nextEdges};
 ghost use Rattle.graph.specs.Outcome.{check_slices, outcome, Compiles, Joined, Joins, ChainedBy};
 ghost use Rattle.edges.specs.Tables.{slices, Room};
 ghost use Rattle.edges.specs.Chains.{Chained};
 
 use codes::{Checked, Refusal};
 use dem::{Mechanism, Place};
-
-// How many edges a model has, or why it has none.
-#[derive(Clone, Copy)]
-pub enum Compiled {
-    Edges(usize),
-    Refused(Refusal),
-}
 
 // One mechanism: lists (5), probability (4); zero or no detectors: skipped; over two detectors (7). Long for its parameters, one a line.
 fn join(
@@ -39,12 +30,12 @@ fn join(
     edge_p: &mut [f64],
     first: &mut [u32],
     next: &mut [u32],
-) -> Compiled
+) -> Result<usize, Refusal>
     requires { Inside head place component_detectors.now component_observables.now entries.now × (detectors ≤ length first.old) × Room observables count (slices edge_u.old edge_v.old edge_weight.old edge_obs.old edge_p.old) next.old × Chained count edge_u.old edge_v.old first.old next.old }
     ensures { Joins observables count (λ es. nextEdges detectors observables i (mechanism_at head place component_detectors.now component_observables.now entries.now) (into es)) result (slices edge_u.old edge_v.old edge_weight.old edge_obs.old edge_p.old) (slices edge_u.new edge_v.new edge_weight.new edge_obs.new edge_p.new)
         × ChainedBy result (slices edge_u.new edge_v.new edge_weight.new edge_obs.new edge_p.new) first.new next.new }
 {
-    let checked = mechanism_check::check_mechanism(
+    mechanism_check::check_mechanism(
         detectors,
         observables,
         i,
@@ -53,20 +44,17 @@ fn join(
         component_detectors,
         component_observables,
         entries,
-    );
-    if let Checked::Refused(r) = checked {
-        return Compiled::Refused(r);
-    }
+    )?;
     let p = head.probability;
     let d = head.detectors as usize;
     if p == 0.0 {
-        return Compiled::Edges(count);
+        return Ok(count);
     }
     if d == 0 {
-        return Compiled::Edges(count);
+        return Ok(count);
     }
     if 2 < d {
-        return Compiled::Refused(Refusal::NotGraphlike { mechanism: i });
+        return Err(Refusal::NotGraphlike { mechanism: i });
     }
     let at = place.entry;
     let from = at + d;
@@ -87,73 +75,7 @@ fn join(
         first,
         next,
     );
-    Compiled::Edges(n)
-}
-
-// Per mechanism in order, in tables that are long enough. Long for its parameters, one a line.
-fn join_all(
-    detectors: usize,
-    observables: usize,
-    mechanisms: usize,
-    probability: &[f64],
-    detector_counts: &[u8],
-    observable_counts: &[u8],
-    component_counts: &[u8],
-    component_detectors: &[u8],
-    component_observables: &[u8],
-    entries: &[u32],
-    edge_u: &mut [u32],
-    edge_v: &mut [u32],
-    edge_weight: &mut [f64],
-    edge_obs: &mut [u64],
-    edge_p: &mut [f64],
-    first: &mut [u32],
-    next: &mut [u32],
-) -> Compiled
-    requires { check_slices detectors observables mechanisms (tables probability.now detector_counts.now observable_counts.now component_counts.now component_detectors.now component_observables.now entries.now) (slices edge_u.old edge_v.old edge_weight.old edge_obs.old edge_p.old) first.old next.old ≡ Accepted }
-    ensures { Joined observables (compile detectors observables (model_of mechanisms (tables probability.now detector_counts.now observable_counts.now component_counts.now component_detectors.now component_observables.now entries.now))) result (slices edge_u.old edge_v.old edge_weight.old edge_obs.old edge_p.old) (slices edge_u.new edge_v.new edge_weight.new edge_obs.new edge_p.new) }
-{
-    edges::no_chains(first);
-    let mut place = Place {
-        component: 0,
-        entry: 0,
-    };
-    let mut count = 0;
-    let mut i = 0;
-    while i < mechanisms {
-        let h = dem::head(
-            probability,
-            detector_counts,
-            observable_counts,
-            component_counts,
-            i,
-        );
-        let joined = join(
-            i,
-            h,
-            place,
-            detectors,
-            observables,
-            component_detectors,
-            component_observables,
-            entries,
-            count,
-            edge_u,
-            edge_v,
-            edge_weight,
-            edge_obs,
-            edge_p,
-            first,
-            next,
-        );
-        let Compiled::Edges(n) = joined else {
-            return joined;
-        };
-        count = n;
-        place = dem::past(h, place, component_detectors, component_observables);
-        i += 1;
-    }
-    Compiled::Edges(count)
+    Ok(n)
 }
 
 fn scratch_long(
@@ -165,16 +87,11 @@ fn scratch_long(
 ) -> bool
     ensures { result ≡ (leb mechanisms edge_p && (leb detectors first && leb mechanisms next)) }
 {
-    if edge_p < mechanisms {
-        return false;
-    }
-    if first < detectors {
-        return false;
-    }
-    mechanisms <= next
+    mechanisms <= edge_p && detectors <= first && mechanisms <= next
 }
 
 // The limits (1), then every slice (2). Long for its parameters, one a line.
+#[tactic(auto, unfolding(crate::specs::Outcome::check_slices, crate::specs::Outcome::slices_long))]
 fn check_slices(
     detectors: usize,
     observables: usize,
@@ -196,11 +113,8 @@ fn check_slices(
 ) -> Checked
     ensures { result ≡ check_slices detectors observables mechanisms (tables probability.now detector_counts.now observable_counts.now component_counts.now component_detectors.now component_observables.now entries.now) (slices edge_u.now edge_v.now edge_weight.now edge_obs.now edge_p.now) first.now next.now }
 {
-    let counts = codes::check_counts(detectors, observables, mechanisms);
-    if let Checked::Refused(r) = counts {
-        return Checked::Refused(r);
-    }
-    let held = model_tables::check_tables(
+    codes::check_counts(detectors, observables, mechanisms)?;
+    model_tables::check_tables(
         mechanisms,
         probability,
         detector_counts,
@@ -209,24 +123,98 @@ fn check_slices(
         component_detectors,
         component_observables,
         entries,
-    );
-    if let Checked::Refused(r) = held {
-        return Checked::Refused(r);
-    }
-    if !lent_graph::tables_long(
+    )?;
+    if lent_graph::tables_long(
         observables,
         mechanisms,
         edge_u,
         edge_v,
         edge_weight,
         edge_obs,
-    ) {
-        return Checked::Refused(Refusal::Short);
+    ) && scratch_long(detectors, mechanisms, edge_p.len(), first.len(), next.len())
+    {
+        Ok(())
+    } else {
+        Err(Refusal::Short)
     }
-    if !scratch_long(detectors, mechanisms, edge_p.len(), first.len(), next.len()) {
-        return Checked::Refused(Refusal::Short);
+}
+
+// The limits and every slice, then per mechanism in order. A refusal may leave edges in the tables. Long for its parameters, one a line.
+fn join_all(
+    detectors: usize,
+    observables: usize,
+    mechanisms: usize,
+    probability: &[f64],
+    detector_counts: &[u8],
+    observable_counts: &[u8],
+    component_counts: &[u8],
+    component_detectors: &[u8],
+    component_observables: &[u8],
+    entries: &[u32],
+    edge_u: &mut [u32],
+    edge_v: &mut [u32],
+    edge_weight: &mut [f64],
+    edge_obs: &mut [u64],
+    edge_p: &mut [f64],
+    first: &mut [u32],
+    next: &mut [u32],
+) -> Result<usize, Refusal>
+    ensures { Joined observables (outcome detectors observables mechanisms (tables probability.now detector_counts.now observable_counts.now component_counts.now component_detectors.now component_observables.now entries.now) (slices edge_u.old edge_v.old edge_weight.old edge_obs.old edge_p.old) first.old next.old) result (slices edge_u.old edge_v.old edge_weight.old edge_obs.old edge_p.old) (slices edge_u.new edge_v.new edge_weight.new edge_obs.new edge_p.new) }
+{
+    check_slices(
+        detectors,
+        observables,
+        mechanisms,
+        probability,
+        detector_counts,
+        observable_counts,
+        component_counts,
+        component_detectors,
+        component_observables,
+        entries,
+        edge_u,
+        edge_v,
+        edge_weight,
+        edge_obs,
+        edge_p,
+        first,
+        next,
+    )?;
+    edges::no_chains(first);
+    let mut place = Place {
+        component: 0,
+        entry: 0,
+    };
+    let mut count = 0;
+    for i in 0..mechanisms {
+        let h = dem::head(
+            probability,
+            detector_counts,
+            observable_counts,
+            component_counts,
+            i,
+        );
+        count = join(
+            i,
+            h,
+            place,
+            detectors,
+            observables,
+            component_detectors,
+            component_observables,
+            entries,
+            count,
+            edge_u,
+            edge_v,
+            edge_weight,
+            edge_obs,
+            edge_p,
+            first,
+            next,
+        )?;
+        place = dem::past(h, place, component_detectors, component_observables);
     }
-    Checked::Accepted
+    Ok(count)
 }
 
 // A refusal leaves every table zero, whole.
@@ -236,11 +224,11 @@ pub fn refuse(
     edge_v: &mut [u32],
     edge_weight: &mut [f64],
     edge_obs: &mut [u64],
-) -> Compiled
-    ensures { (result ≡ Compiled.Refused r) × (edge_u.new ≡ replicate (length edge_u.old) 0) × (edge_v.new ≡ replicate (length edge_v.old) 0) × (edge_weight.new ≡ replicate (length edge_weight.old) (fin false 0 (pos 0))) × (edge_obs.new ≡ replicate (length edge_obs.old) 0) }
+) -> Result<usize, Refusal>
+    ensures { (result ≡ Err r) × (edge_u.new ≡ replicate (length edge_u.old) 0) × (edge_v.new ≡ replicate (length edge_v.old) 0) × (edge_weight.new ≡ replicate (length edge_weight.old) (fin false 0 (pos 0))) × (edge_obs.new ≡ replicate (length edge_obs.old) 0) }
 {
     edges::zero_edges(edge_u, edge_v, edge_weight, edge_obs);
-    Compiled::Refused(r)
+    Err(r)
 }
 
 // The edge graph of a model. `edge_p`, `first` and `next` are scratch: any contents, and any are left. Long for its parameters, one a line.
@@ -262,10 +250,10 @@ pub fn from_model(
     edge_p: &mut [f64],
     first: &mut [u32],
     next: &mut [u32],
-) -> Compiled
+) -> Result<usize, Refusal>
     ensures { Compiles detectors observables (outcome detectors observables mechanisms (tables probability.now detector_counts.now observable_counts.now component_counts.now component_detectors.now component_observables.now entries.now) (slices edge_u.old edge_v.old edge_weight.old edge_obs.old edge_p.old) first.old next.old) result (slices edge_u.old edge_v.old edge_weight.old edge_obs.old edge_p.old) (slices edge_u.new edge_v.new edge_weight.new edge_obs.new edge_p.new) }
 {
-    let checked = check_slices(
+    match join_all(
         detectors,
         observables,
         mechanisms,
@@ -283,31 +271,8 @@ pub fn from_model(
         edge_p,
         first,
         next,
-    );
-    if let Checked::Refused(r) = checked {
-        return refuse(r, edge_u, edge_v, edge_weight, edge_obs);
+    ) {
+        Ok(n) => Ok(n),
+        Err(r) => refuse(r, edge_u, edge_v, edge_weight, edge_obs),
     }
-    let compiled = join_all(
-        detectors,
-        observables,
-        mechanisms,
-        probability,
-        detector_counts,
-        observable_counts,
-        component_counts,
-        component_detectors,
-        component_observables,
-        entries,
-        edge_u,
-        edge_v,
-        edge_weight,
-        edge_obs,
-        edge_p,
-        first,
-        next,
-    );
-    if let Compiled::Refused(r) = compiled {
-        return refuse(r, edge_u, edge_v, edge_weight, edge_obs);
-    }
-    compiled
 }

@@ -2,16 +2,17 @@
 #![tactic(auto)]
 
 ghost use Rattle.std.specs.Prelude.{◌≡◌};
-ghost use Rattle.dem.specs.Tables.{model_of, tables_zero};
 ghost use Rattle.dem.specs.Positions.{tables};
-ghost use Rattle.dem.specs.Decompose.{decompose};
-ghost use Rattle.decompose.specs.Call.{room_of, checked, outcome, Decomposes};
-ghost use Rattle.graphlike.specs.Lent.{scratch_of, Lent};
+ghost use Rattle.decompose.specs.Call.{checked, outcome, Decomposes};
+ghost use Rattle.decompose.specs.Made.{Made};
+ghost use Rattle.graphlike.specs.Lent.{scratch_of};
 
 use codes::{Checked, Refusal};
-use decompose::{Decomposed, Scratch};
+use decompose::Scratch;
+use split_model::Counts;
 
 // The limits (1), all lengths (2), then all mechanisms in order. Long for its parameters, one a line.
+#[tactic(auto, unfolding(decompose::specs::Call::checked, decompose::specs::Call::long), using(codes::proofs::Checks::counts_within, codes::proofs::Checks::unless_accepted))]
 fn check(
     detectors: usize,
     observables: usize,
@@ -34,11 +35,8 @@ fn check(
 ) -> Checked
     ensures { result ≡ checked detectors observables mechanisms (tables probability.now detector_counts.now observable_counts.now component_counts.now component_detectors.now component_observables.now entries.now) (tables out_probability.now out_detector_counts.now out_observable_counts.now out_component_counts.now out_component_detectors.now out_component_observables.now out_entries.now) scratch }
 {
-    let counts = codes::check_counts(detectors, observables, mechanisms);
-    if let Checked::Refused(r) = counts {
-        return Checked::Refused(r);
-    }
-    let held = model_tables::check_tables(
+    codes::check_counts(detectors, observables, mechanisms)?;
+    model_tables::check_tables(
         mechanisms,
         probability,
         detector_counts,
@@ -47,10 +45,7 @@ fn check(
         component_detectors,
         component_observables,
         entries,
-    );
-    if let Checked::Refused(r) = held {
-        return Checked::Refused(r);
-    }
+    )?;
     let end = dem::totals(
         mechanisms,
         detector_counts,
@@ -70,10 +65,10 @@ fn check(
         out_component_observables,
         out_entries,
     ) {
-        return Checked::Refused(Refusal::Short);
+        return Err(Refusal::Short);
     }
     if !model_lengths::scratch_long(detectors, mechanisms, scratch) {
-        return Checked::Refused(Refusal::Short);
+        return Err(Refusal::Short);
     }
     model_tables::check_mechanisms(
         detectors,
@@ -89,34 +84,10 @@ fn check(
     )
 }
 
-// A refusal leaves every output table zero, whole.
-fn refuse(
-    r: Refusal,
-    out_probability: &mut [f64],
-    out_detector_counts: &mut [u8],
-    out_observable_counts: &mut [u8],
-    out_component_counts: &mut [u8],
-    out_component_detectors: &mut [u8],
-    out_component_observables: &mut [u8],
-    out_entries: &mut [u32],
-) -> Decomposed
-    ensures { (result ≡ Decomposed.Refused r) × (tables out_probability.new out_detector_counts.new out_observable_counts.new out_component_counts.new out_component_detectors.new out_component_observables.new out_entries.new ≡ tables_zero (tables out_probability.old out_detector_counts.old out_observable_counts.old out_component_counts.old out_component_detectors.old out_component_observables.old out_entries.old)) }
-{
-    split_model::zero_tables(
-        out_probability,
-        out_detector_counts,
-        out_observable_counts,
-        out_component_counts,
-        out_component_detectors,
-        out_component_observables,
-        out_entries,
-    );
-    Decomposed::Refused(r)
-}
-
-// An accepted model. Long for its parameters, one a line.
-fn decompose_accepted(
+// The model, checked and then decomposed; a refusal leaves the output tables as they are by then. Long for its parameters, one a line.
+fn try_decompose(
     detectors: usize,
+    observables: usize,
     mechanisms: usize,
     probability: &[f64],
     detector_counts: &[u8],
@@ -142,10 +113,41 @@ fn decompose_accepted(
     words0: &mut [u64],
     words1: &mut [u64],
     earlier: &mut [u32],
-) -> Decomposed
-    requires { Lent detectors mechanisms (tables probability.now detector_counts.now observable_counts.now component_counts.now component_detectors.now component_observables.now entries.now) (tables out_probability.old out_detector_counts.old out_observable_counts.old out_component_counts.old out_component_detectors.old out_component_observables.old out_entries.old) (scratch_of starts.old before.old last_of.old first_of.old next_of.old numbers.old masks.old words0.old words1.old earlier.old) }
-    ensures { Decomposes (decompose (room_of (tables out_probability.old out_detector_counts.old out_observable_counts.old out_component_counts.old out_component_detectors.old out_component_observables.old out_entries.old)) (model_of mechanisms (tables probability.now detector_counts.now observable_counts.now component_counts.now component_detectors.now component_observables.now entries.now))) result (tables out_probability.old out_detector_counts.old out_observable_counts.old out_component_counts.old out_component_detectors.old out_component_observables.old out_entries.old) (tables out_probability.new out_detector_counts.new out_observable_counts.new out_component_counts.new out_component_detectors.new out_component_observables.new out_entries.new) }
+) -> Result<Counts, Refusal>
+    ensures { Made (outcome detectors observables mechanisms (tables probability.now detector_counts.now observable_counts.now component_counts.now component_detectors.now component_observables.now entries.now) (tables out_probability.old out_detector_counts.old out_observable_counts.old out_component_counts.old out_component_detectors.old out_component_observables.old out_entries.old) (scratch_of starts.old before.old last_of.old first_of.old next_of.old numbers.old masks.old words0.old words1.old earlier.old)) (tables out_probability.old out_detector_counts.old out_observable_counts.old out_component_counts.old out_component_detectors.old out_component_observables.old out_entries.old) result (tables out_probability.new out_detector_counts.new out_observable_counts.new out_component_counts.new out_component_detectors.new out_component_observables.new out_entries.new) }
 {
+    let scratch = Scratch {
+        starts: starts.len(),
+        before: before.len(),
+        last_of: last_of.len(),
+        first_of: first_of.len(),
+        next_of: next_of.len(),
+        numbers: numbers.len(),
+        masks: masks.len(),
+        words0: words0.len(),
+        words1: words1.len(),
+        earlier: earlier.len(),
+    };
+    check(
+        detectors,
+        observables,
+        mechanisms,
+        probability,
+        detector_counts,
+        observable_counts,
+        component_counts,
+        component_detectors,
+        component_observables,
+        entries,
+        out_probability,
+        out_detector_counts,
+        out_observable_counts,
+        out_component_counts,
+        out_component_detectors,
+        out_component_observables,
+        out_entries,
+        scratch,
+    )?;
     let room = model_lengths::room(
         out_probability,
         out_detector_counts,
@@ -155,7 +157,7 @@ fn decompose_accepted(
         out_component_observables,
         out_entries,
     );
-    let made = decompose::decompose_checked(
+    decompose::decompose_checked(
         mechanisms,
         room,
         probability,
@@ -182,23 +184,10 @@ fn decompose_accepted(
         words0,
         words1,
         earlier,
-    );
-    if let Decomposed::Refused(r) = made {
-        return refuse(
-            r,
-            out_probability,
-            out_detector_counts,
-            out_observable_counts,
-            out_component_counts,
-            out_component_detectors,
-            out_component_observables,
-            out_entries,
-        );
-    }
-    made
+    )
 }
 
-// The model with only mechanisms of at most two detectors. The last ten slices are scratch: any contents, and any are left. Long for its parameters, one a line.
+// The model with only mechanisms of at most two detectors; a refusal leaves every output table zero, whole. The last ten slices are scratch: any contents, and any are left. Long for its parameters, one a line.
 pub fn decompose_graphlike(
     detectors: usize,
     observables: usize,
@@ -227,55 +216,12 @@ pub fn decompose_graphlike(
     words0: &mut [u64],
     words1: &mut [u64],
     earlier: &mut [u32],
-) -> Decomposed
+) -> Result<Counts, Refusal>
     ensures { Decomposes (outcome detectors observables mechanisms (tables probability.now detector_counts.now observable_counts.now component_counts.now component_detectors.now component_observables.now entries.now) (tables out_probability.old out_detector_counts.old out_observable_counts.old out_component_counts.old out_component_detectors.old out_component_observables.old out_entries.old) (scratch_of starts.old before.old last_of.old first_of.old next_of.old numbers.old masks.old words0.old words1.old earlier.old)) result (tables out_probability.old out_detector_counts.old out_observable_counts.old out_component_counts.old out_component_detectors.old out_component_observables.old out_entries.old) (tables out_probability.new out_detector_counts.new out_observable_counts.new out_component_counts.new out_component_detectors.new out_component_observables.new out_entries.new) }
 {
-    let scratch = Scratch {
-        starts: starts.len(),
-        before: before.len(),
-        last_of: last_of.len(),
-        first_of: first_of.len(),
-        next_of: next_of.len(),
-        numbers: numbers.len(),
-        masks: masks.len(),
-        words0: words0.len(),
-        words1: words1.len(),
-        earlier: earlier.len(),
-    };
-    let checked = check(
+    let answer = try_decompose(
         detectors,
         observables,
-        mechanisms,
-        probability,
-        detector_counts,
-        observable_counts,
-        component_counts,
-        component_detectors,
-        component_observables,
-        entries,
-        out_probability,
-        out_detector_counts,
-        out_observable_counts,
-        out_component_counts,
-        out_component_detectors,
-        out_component_observables,
-        out_entries,
-        scratch,
-    );
-    if let Checked::Refused(r) = checked {
-        return refuse(
-            r,
-            out_probability,
-            out_detector_counts,
-            out_observable_counts,
-            out_component_counts,
-            out_component_detectors,
-            out_component_observables,
-            out_entries,
-        );
-    }
-    decompose_accepted(
-        detectors,
         mechanisms,
         probability,
         detector_counts,
@@ -301,5 +247,17 @@ pub fn decompose_graphlike(
         words0,
         words1,
         earlier,
-    )
+    );
+    if answer.is_err() {
+        split_model::zero_tables(
+            out_probability,
+            out_detector_counts,
+            out_observable_counts,
+            out_component_counts,
+            out_component_detectors,
+            out_component_observables,
+            out_entries,
+        );
+    }
+    answer
 }

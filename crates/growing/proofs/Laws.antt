@@ -1,14 +1,36 @@
 -- The turns of the passes over the counted edges. Assumes nothing.
 use Prim.Native.Nat.{ℕ, ◌+◌, ◌<◌, ◌≤◌}
-use mathlib.Core.Path.{◌≡◌, refl, ◌∙◌}
-use mathlib.Core.List.{List, ◌++◌, append-nil}
+use native.Mathlib.Omega.{arith}
+use mathlib.Core.Path.{◌≡◌, refl, sym, ap, ◌∙◌}
+use mathlib.Core.List.{List, [], ◌∷◌, ◌++◌, append-nil}
 use mathlib.Core.Bool.{Bool}
-use lib.ListN.{length, get_or, set, take}
+use lib.ListN.{length, get_or, set, take, get_or-map}
 use lib.Ieee.{Float, nan}
 use lib.Seq.{slice, slice_empty}
 use mir.Val.{bool_byte}
-use Rattle.growing.specs.Growing.{least_in, lesser_of, step_from, moved_by, grow_in, reaches_from, ripe_in}
+use Rattle.cells.specs.declared.Link.{Link}
+use Rattle.cells.specs.Tables.{touched, cnt, link_column, SameLinks}
+use Rattle.columns.proofs.Columns.{column_length}
+use Rattle.growing.specs.Growing.{Growing, least_in, lesser_of, step_from, moved_by, grow_in, reaches_from, ripe_in}
 use Rattle.growth_state.proofs.Laws.{slice_next, listed}
+
+abbrev pub empty : Link
+empty = record { touched = 0; count = 0; fresh = 0; unused = 0 }
+
+-- a row that is read while the edges and their counts are kept
+module _ {links now : List Link} (s : SameLinks (2 ∷ []) links now) (i : ℕ) where
+  pub edge_is : get_or (touched links) i 0 ≡ (get_or now i empty).touched
+  edge_is = sym (ap (λ (l : List ℕ). get_or l i 0) (s.rest 0 refl)) ∙ get_or-map (λ r. r.touched) now i empty
+
+  pub count_is : get_or (cnt links) i 0 ≡ (get_or now i empty).count
+  count_is = sym (ap (λ (l : List ℕ). get_or l i 0) (s.rest 1 refl)) ∙ get_or-map (λ r. r.count) now i empty
+
+  module _ {m E : ℕ} (g : Growing (touched links) (cnt links) m E) (h : i < m) where
+    pub row_in : i < length now
+    row_in = omega (arith, g.touches, column_length link_column 0 links, s.long)
+
+    pub edge_in : (get_or now i empty).touched < E
+    edge_in = rw edge_is at (g.inside i h)
 
 module _ (touched cnt : List ℕ) (i m : ℕ) (hi : i < m) (ht : m ≤ length touched) (hc : m ≤ length cnt) where
   pub least_turn : (w g : List Float) (b : Float)

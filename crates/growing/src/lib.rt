@@ -4,12 +4,12 @@
 ghost use Rattle.std.specs.Prelude.{◌+◌, ◌*◌, ◌<◌, ◌≡◌, false, length, take, [], ◌∷◌};
 ghost use Rattle.std.specs.Float.{inf};
 ghost use Rattle.growing.specs.Growing.{share_of, step_from, lesser_of, Growing, least_in, moved_by, reaches_from, Ripened};
-ghost use Rattle.columns.specs.Columns.{Wide};
-ghost use Rattle.cells.specs.Tables.{touched, cnt, fresh, SameLinks};
+ghost use Rattle.cells.specs.Tables.{at_fresh, touched, cnt, fresh, SameLinks};
 
-use cells::{CNT, FRESH, TOUCHED};
+use cells::Link;
 
 // The lesser of two steps.
+// kept: `min` answers s where b is not a number, and the definition b.
 pub fn lesser(b: f64, s: f64) -> f64
     ensures { result ≡ lesser_of b s }
 {
@@ -17,6 +17,7 @@ pub fn lesser(b: f64, s: f64) -> f64
 }
 
 // Whether an edge of weight w and growth g saturates.
+#[tactic(auto, unfolding(steps::specs::Growth::tolerance))]
 pub fn reaches(w: f64, g: f64) -> bool
     ensures { result ≡ reaches_from w g }
 {
@@ -38,19 +39,15 @@ pub fn step_at(w: f64, g: f64, n: u32) -> f64
 }
 
 // Step 2: the least step of the m edges; infinity where there is none. The edge that gives it reaches its weight in step 3, so it is not kept.
-pub fn least(links: &[[u32; 4]], m: usize, edge_weight: &[f64], growth: &[f64]) -> f64
+pub fn least(links: &[Link], m: usize, edge_weight: &[f64], growth: &[f64]) -> f64
     requires growing { Growing (touched links.now) (cnt links.now) m (length edge_weight.now) }
     requires growth_len { length growth.now ≡ length edge_weight.now }
     ensures { result ≡ least_in edge_weight.now growth.now (inf false) (take m (touched links.now)) (take m (cnt links.now)) }
 {
-    let mut b = f64::from_bits(9218868437227405312);
-    let mut i = 0;
-    while i < m {
-        let x = cells::link(links, i, TOUCHED) as usize;
-        let n = cells::link(links, i, CNT);
-        let s = step_at(edge_weight[x], growth[x], n);
-        b = lesser(b, s);
-        i += 1;
+    let mut b = f64::INFINITY;
+    for link in &links[..m] {
+        let x = link.touched as usize;
+        b = lesser(b, step_at(edge_weight[x], growth[x], link.count));
     }
     b
 }
@@ -64,28 +61,25 @@ pub fn moved(g: f64, n: u32, step: f64) -> f64
 
 // Step 3: moves the growth of the m edges on by the step, once for each end that is counted, and lists those that reach their weight. Each edge is written before it is known whether it is listed, since that cannot be foretold.
 pub fn grow(
-    links: &mut [[u32; 4]],
+    links: &mut [Link],
     m: usize,
     step: f64,
     edge_weight: &[f64],
     growth: &mut [f64],
 ) -> usize
     requires growing { Growing (touched links.old) (cnt links.old) m (length edge_weight.now) }
-    requires growth_len { (length growth.old ≡ length edge_weight.now) × Wide 4 links.old }
+    requires growth_len { length growth.old ≡ length edge_weight.now }
     ensures { Ripened step edge_weight.now growth.old (take m (touched links.old)) (take m (cnt links.old)) m growth.new (fresh links.new) result
-        × SameLinks (2 ∷ []) links.old links.new }
+        × SameLinks (at_fresh ∷ []) links.old links.new }
 {
     let mut k = 0;
-    let mut i = 0;
-    while i < m {
-        let e = cells::link(links, i, TOUCHED);
-        let n = cells::link(links, i, CNT);
+    for i in 0..m {
+        let e = links[i].touched;
         let x = e as usize;
-        let now = moved(growth[x], n, step);
-        i += 1;
+        let now = moved(growth[x], links[i].count, step);
         growth[x] = now;
         let done = reaches(edge_weight[x], now);
-        cells::set_link(links, k, FRESH, e);
+        links[k].fresh = e;
         k += done as usize;
     }
     k

@@ -1,16 +1,15 @@
 -- The rounds of growth. Assumes nothing.
-use Prim.Native.Nat.{ℕ, zero, suc, ◌+◌, ◌-◌, ◌*◌, ◌<◌, ◌≤◌}
+use Rattle.std.specs.Prelude.{Option, None, Some}
+use Prim.Native.Nat.{ℕ, zero, suc, ◌+◌, ◌-◌, ◌<◌, ◌≤◌}
 use native.Mathlib.Omega.{arith}
 use native.Mathlib.Nat.{not-suc-le-zero}
-use mathlib.Core.Path.{◌≡◌, refl, sym, ap, ap₂, ◌∙◌, subst}
-use mathlib.Core.List.{List, [], ◌∷◌, map}
-use mathlib.Core.Bool.{Bool, true, false, cond, ◌||◌}
-use mathlib.Core.Option.{Option, none, some}
-use lib.Dec.{eqb}
+use mathlib.Core.Path.{◌≡◌, refl, sym, ap, ◌∙◌, subst}
+use mathlib.Core.List.{List, [], ◌∷◌}
+use mathlib.Core.Bool.{Bool, false, ◌||◌}
 use lib.ListN.{length, get_or, take, length-map}
 use lib.Ieee.{Float}
 use borrow.Author.Tests.{ne_eqb}
-use Rattle.lists.specs.Lists.{member, filter}
+use Rattle.lists.specs.Lists.{filter}
 use Rattle.steps.specs.Graph.{Graph, Ends, edges}
 use Rattle.steps.specs.Growth.{State, is_counted, least_of, saturates, first_stuck, next, start, ended, held, onward, turn_of, turn, stuck, settled, grow, growth}
 use Rattle.lists.proofs.Members.{length_below, get_d_below}
@@ -23,10 +22,9 @@ use Rattle.growth_state.specs.Rep.{state_of, Rep}
 use Rattle.growth_state.proofs.Laws.{member_take}
 use Rattle.growth_state.proofs.Unseen.{used_of}
 use Rattle.forest.specs.Forest.{labels}
-use Rattle.first_stuck.specs.FirstStuck.{named}
 use Rattle.adjacency.specs.Adjacent.{weighted}
 use Rattle.growth_round.specs.Round.{Space, Stepped}
-use Rattle.growth_round.specs.Grow.{answer_of, Grew}
+use Rattle.growth_round.specs.Grow.{Grew}
 
 -- the state is the one that the tables hold
 pub rep_own : {g : Graph} {lit : List Bool} {s : State} {growth : List Float} {sat : List Bool} {parent active : List ℕ} {a : ℕ} {odd : List Bool} {exit : List ℕ} {known : List Bool} {seen : List ℕ} {n : ℕ}
@@ -67,11 +65,11 @@ module _ (g : Graph) (lit : List Bool) where
   unfolding turn turn_of
   turn_none s q = ap (λ (l : List ℕ). turn_of l (first_stuck g lit s l)) q
 
-  turn_stuck : (s : State) (a : ℕ) (l : List ℕ) (d : ℕ) → s.active ≡ a ∷ l → first_stuck g lit s (a ∷ l) ≡ some d → turn g lit s ≡ held d
+  turn_stuck : (s : State) (a : ℕ) (l : List ℕ) (d : ℕ) → s.active ≡ a ∷ l → first_stuck g lit s (a ∷ l) ≡ Some d → turn g lit s ≡ held d
   unfolding turn turn_of
   turn_stuck s a l d q h = ap (λ (l : List ℕ). turn_of l (first_stuck g lit s l)) q ∙ ap (turn_of (a ∷ l)) h
 
-  turn_on : (s : State) (a : ℕ) (l : List ℕ) → s.active ≡ a ∷ l → first_stuck g lit s (a ∷ l) ≡ none → turn g lit s ≡ onward
+  turn_on : (s : State) (a : ℕ) (l : List ℕ) → s.active ≡ a ∷ l → first_stuck g lit s (a ∷ l) ≡ None → turn g lit s ≡ onward
   unfolding turn turn_of
   turn_on s a l q h = ap (λ (l : List ℕ). turn_of l (first_stuck g lit s l)) q ∙ ap (turn_of (a ∷ l)) h
 
@@ -79,11 +77,11 @@ module _ (g : Graph) (lit : List Bool) where
   unfolding grow
   grow_none fuel n s q = ap (grow g lit (suc fuel) n s) (turn_none s q)
 
-  grow_stuck : (fuel n : ℕ) (s : State) (a : ℕ) (l : List ℕ) (d : ℕ) → s.active ≡ a ∷ l → first_stuck g lit s (a ∷ l) ≡ some d → grow g lit (suc fuel) n s (turn g lit s) ≡ stuck n d
+  grow_stuck : (fuel n : ℕ) (s : State) (a : ℕ) (l : List ℕ) (d : ℕ) → s.active ≡ a ∷ l → first_stuck g lit s (a ∷ l) ≡ Some d → grow g lit (suc fuel) n s (turn g lit s) ≡ stuck n d
   unfolding grow
   grow_stuck fuel n s a l d q h = ap (grow g lit (suc fuel) n s) (turn_stuck s a l d q h)
 
-  grow_on : (fuel n : ℕ) (s : State) (a : ℕ) (l : List ℕ) → s.active ≡ a ∷ l → first_stuck g lit s (a ∷ l) ≡ none
+  grow_on : (fuel n : ℕ) (s : State) (a : ℕ) (l : List ℕ) → s.active ≡ a ∷ l → first_stuck g lit s (a ∷ l) ≡ None
       → grow g lit (suc fuel) n s (turn g lit s) ≡ grow g lit fuel (suc n) (next g lit s) (turn g lit (next g lit s))
   unfolding grow
   grow_on fuel n s a l q h = ap (grow g lit (suc fuel) n s) (turn_on s a l q h)
@@ -99,7 +97,7 @@ module _ (g : Graph) (lit : List Bool) where
   unfolding next
   next_length s = length-map (edges g) (λ e. get_or s.saturated e false || saturates g lit s (least_of g lit s (filter (is_counted g lit s) (edges g))) e) ∙ length_below (length g.edge_u)
 
-  more_trues : (s : State) (a : ℕ) (l : List ℕ) → length s.saturated ≡ length g.edge_u → s.active ≡ a ∷ l → first_stuck g lit s (a ∷ l) ≡ none
+  more_trues : (s : State) (a : ℕ) (l : List ℕ) → length s.saturated ≡ length g.edge_u → s.active ≡ a ∷ l → first_stuck g lit s (a ∷ l) ≡ None
       → trues s.saturated < trues (next g lit s).saturated
   more_trues s a l z q h =
       let (e, k, p, r) = progress g lit s z (turn_on s a l q h) in
@@ -111,14 +109,6 @@ cons_of : (l : List ℕ) (a : ℕ) → 0 < a → a ≤ length l → (x : ℕ) ×
 cons_of l zero h k = absurd (not-suc-le-zero h)
 cons_of [] (suc a) h k = absurd (not-suc-le-zero k)
 cons_of (x ∷ l) (suc a) h k = (x, take a l, refl)
-
-found_of : (o : Option ℕ) (d : ℕ) → d ≡ named o → (d ≡ 4294967295 → ⊥) → o ≡ some d
-found_of none d q n = absurd (n q)
-found_of (some x) d q n = ap {B = Option ℕ} some (sym q)
-
-none_of : (o : Option ℕ) → named o ≡ 4294967295 → ((d : ℕ) → o ≡ some d → d < 4294967295) → o ≡ none
-none_of none q h = refl
-none_of (some x) q h = absurd (let k = h x refl in omega arith)
 
 module _ {d : ℕ} {us vs : List ℕ} {ws : List Float} (ok : Ends (weighted d us vs ws)) {lit : List Bool} {growth₀ : List Float} {sat : List Bool} {parent active : List ℕ} {a : ℕ} {odd : List Bool} {exit : List ℕ}
     {known : List Bool} {seen : List ℕ} {n : ℕ} {hot free : List Bool}
@@ -143,25 +133,28 @@ module _ {d : ℕ} {us vs : List ℕ} {ws : List Float} (ok : Ends (weighted d u
         rep.lits rep.growths rep.parents refl rep.clusters rep.calm rep.rest.hots rep.rest.hot_is rep.rest.frees (λ r h f. rep.rest.none_free r);
   }
 
-  module _ (some-active : 0 < a) {stuck' : ℕ} {growth₁ : List Float} {sat₁ : List Bool} {parent₁ active₁ : List ℕ} {a₁ : ℕ} {odd₁ : List Bool} {exit₁ : List ℕ}
+  module _ (some-active : 0 < a) {stuck' : Option ℕ} {growth₁ : List Float} {sat₁ : List Bool} {parent₁ active₁ : List ℕ} {a₁ : ℕ} {odd₁ : List Bool} {exit₁ : List ℕ}
       {known₁ : List Bool} {seen₁ : List ℕ} {n₁ : ℕ} {hot₁ free₁ : List Bool}
       (st : Stepped g lit s stuck' growth₁ sat₁ parent₁ active₁ a₁ odd₁ exit₁ known₁ seen₁ n₁ hot₁ free₁) where
-    pub gets_stuck : (stuck' ≡ 4294967295 → ⊥) → Grew g lit stuck' rounds growth₁ sat₁ parent₁ active₁ a₁ odd₁ exit₁ known₁ seen₁ n₁ hot₁ free₁
-    gets_stuck z =
+    -- a cluster that is named is one of the active ones
+    pub not_boundary : (k : ℕ) → stuck' ≡ Some k → k ≡ 4294967295 → ⊥
+    not_boundary k z e = omega (arith, member_take (λ x. x < d) active a rep.inside k (stuck_is g lit s (take a active) k (sym st.stuck_is ∙ z)).0, ok.small)
+
+    pub gets_stuck : (k : ℕ) → stuck' ≡ Some k → Grew g lit k rounds growth₁ sat₁ parent₁ active₁ a₁ odd₁ exit₁ known₁ seen₁ n₁ hot₁ free₁
+    gets_stuck k z =
         let (x, l, q) = cons_of active a some-active rep.actives in
-        let h = found_of (first_stuck g lit s (take a active)) stuck' st.stuck_is z in
+        let h = st.held k z in
         record {
-          answer = sym so_far ∙ grow_stuck g lit (length us - rounds) rounds s x l stuck' q (ap (first_stuck g lit s) (sym q) ∙ h) ∙ sym (rw (ne_eqb stuck' 4294967295 z));
+          answer = sym so_far ∙ grow_stuck g lit (length us - rounds) rounds s x l k q (ap (first_stuck g lit s) (sym q) ∙ sym st.stuck_is ∙ z) ∙ sym (rw (ne_eqb k 4294967295 (not_boundary k z)));
           few = rounds_few;
-          seens = (st.held z).seens;
-          settles = λ y. absurd (z y);
-          used = (st.held z).used;
+          seens = h.seens;
+          settles = λ y. absurd (not_boundary k z y);
+          used = h.used;
         }
 
-    module _ (free_all : stuck' ≡ 4294967295) where
-      none_stuck : first_stuck g lit s (take a active) ≡ none
-      none_stuck = none_of (first_stuck g lit s (take a active)) (sym st.stuck_is ∙ free_all)
-          (λ y h. omega (arith, member_take (λ x. x < d) active a rep.inside y (stuck_is g lit s (take a active) y h).0, ok.small))
+    module _ (free_all : stuck' ≡ None) where
+      none_stuck : first_stuck g lit s (take a active) ≡ None
+      none_stuck = sym st.stuck_is ∙ free_all
 
       pub rep_on : Rep g lit (state_of d growth₁ sat₁ parent₁ active₁ a₁) growth₁ sat₁ parent₁ active₁ a₁ odd₁ exit₁ known₁ seen₁ n₁ hot₁ free₁
       rep_on = rep_own (st.moved free_all)

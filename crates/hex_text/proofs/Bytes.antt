@@ -11,6 +11,8 @@ use lib.Seq.{drop-cons, drop-drop, take-add}
 use lib.Dec.{leb}
 use borrow.Author.Tests.{leb-true}
 use Rattle.lists.proofs.Truth.{and_left, and_right}
+use Rattle.std.specs.List.{list_all}
+use Rattle.std.proofs.lemmas.List.Recursion.{same_from_clauses}
 use Rattle.hex_text.specs.Hex.{between, is_digit, digit_value, all_digits, bytes_of, number_after, number}
 
 -- ---- digits
@@ -18,16 +20,9 @@ use Rattle.hex_text.specs.Hex.{between, is_digit, digit_value, all_digits, bytes
 pub between_facts : (a z b : ℕ) → between a z b ≡ true → (a ≤ b) × (b ≤ z)
 between_facts a z b h = (leb-true a b (and_left (leb a b) (leb b z) h), leb-true b z (and_right (leb a b) (leb b z) h))
 
-pub digits_next : (l : List ℕ) (i : ℕ) → i < length l → all_digits (drop i l) ≡ (is_digit (get_or l i 0) && all_digits (drop (i + 1) l))
+pub digits_all : (l : List ℕ) → all_digits l ≡ list_all is_digit l
 unfolding all_digits
-digits_next l i h = ap all_digits (drop-cons l i 0 h) ∙ rw (add-one i)
-
-pub digits_end : (l : List ℕ) (i : ℕ) → length l ≤ i → all_digits (drop i l) ≡ true
-unfolding all_digits
-digits_end [] zero h = refl
-digits_end [] (suc i) h = refl
-digits_end (b ∷ l) zero h = absurd (omega arith)
-digits_end (b ∷ l) (suc i) h = digits_end l i (omega arith)
+digits_all = same_from_clauses all_digits (list_all is_digit) (λ b r. is_digit b && r) refl (λ _ _. refl) (λ _ _. refl)
 
 -- ---- bytes
 

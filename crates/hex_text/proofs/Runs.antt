@@ -1,11 +1,13 @@
 -- Runs of numbers stored, and of bytes written: a turn, and the end.
 use Prim.Native.Nat.{ℕ, zero, suc, ◌+◌, ◌-◌, ◌*◌, ◌/◌, ◌%◌, ◌^◌, ◌≤◌, ◌<◌}
 use native.Mathlib.Omega.{arith}
-use native.Mathlib.Numerals.{add-one}
 use mathlib.Core.Path.{◌≡◌, refl, sym, ap, ap₂, ◌∙◌}
 use mathlib.Core.List.{List, [], ◌∷◌, ◌++◌}
 use lib.ListN.{length, take, drop, set}
 use lib.Seq.{sets, drop-drop}
+use Rattle.lists.proofs.Slices.{sets_append}
+use Rattle.std.proofs.Math.Nat.{mul-le-mul_left}
+use Rattle.std.proofs.Math.Numerals.{add-one-le}
 use Rattle.hex_text.specs.Hex.{number, numbers, text_of, bytes_in}
 
 -- ---- numbers of k bytes
@@ -29,43 +31,31 @@ numbers_add k (suc n) m l =
     ∙ ap {B = List ℕ} (λ (r : List ℕ). number (take k l) ∷ r)
     (numbers_add k n m (drop k l) ∙ ap (λ (r : List ℕ). numbers k n (drop k l) ++ numbers k m r) (drop-drop (k * n) k l ∙ ap (λ (a : ℕ). drop a l) q))
 
-numbers_turn : (k n i b : ℕ) (l : List ℕ) → i < n
-    → numbers k (n - i) (drop (b + k * i) l) ≡ number (take k (drop (b + k * i) l)) ∷ numbers k (n - (i + 1)) (drop (b + k * (i + 1)) l)
+-- number i of those from byte b on, x, goes behind the first i at place j
+pub run_more : (k i b j x : ℕ) (l out : List ℕ) → x ≡ number (take k (drop (b + k * i) l))
+    → set (sets out j (numbers k i (drop b l))) (j + i) x ≡ sets out j (numbers k (i + 1) (drop b l))
 unfolding numbers
-numbers_turn k n i b l h =
-    let e : n - i ≡ suc (n - (i + 1)) = omega arith in
-    let q : b + k * i + k ≡ b + k * (i + 1) = omega arith in
-    ap (λ (m : ℕ). numbers k m (drop (b + k * i) l)) e
-    ∙ ap {B = List ℕ} (λ (m : List ℕ). number (take k (drop (b + k * i) l)) ∷ numbers k (n - (i + 1)) m) (drop-drop k (b + k * i) l ∙ ap (λ (m : ℕ). drop m l) q)
+run_more k i b j x l out q =
+    let first = numbers k i (drop b l) in
+    ap₂ (λ (m : ℕ) (y : ℕ). set (sets out j first) (j + m) y) (sym (numbers_long k i (drop b l))) (q ∙ ap (λ (m : List ℕ). number (take k m)) (sym (drop-drop (k * i) b l)))
+    ∙ sym (ap (sets out j) (numbers_add k i 1 (drop b l)) ∙ sets_append out j first (numbers k 1 (drop (k * i) (drop b l))))
 
--- number i goes to place j, and the next one to place m
-pub run_turn : (k n i b j m x : ℕ) (l out : List ℕ) → i < n → m ≡ j + 1 → x ≡ number (take k (drop (b + k * i) l))
-    → sets out j (numbers k (n - i) (drop (b + k * i) l)) ≡ sets (set out j x) m (numbers k (n - (i + 1)) (drop (b + k * (i + 1)) l))
-run_turn k n i b j m x l out h p q =
-    let rest = numbers k (n - (i + 1)) (drop (b + k * (i + 1)) l) in
-    ap (sets out j) (numbers_turn k n i b l h)
-    ∙ ap₂ (λ (y : ℕ) (t : ℕ). sets (set out j y) t rest) (sym q) (sym (add-one j) ∙ sym p)
-
-pub run_end : (k n i j : ℕ) (l out : List ℕ) → n ≤ i → sets out j (numbers k (n - i) l) ≡ out
-unfolding numbers
-run_end k n i j l out h = let e : n - i ≡ 0 = omega arith in ap (λ (m : ℕ). sets out j (numbers k m l)) e
-
-pub run_start : (k n b j : ℕ) (l out : List ℕ) → sets out j (numbers k (n - 0) (drop (b + k * 0) l)) ≡ sets out j (numbers k n (drop b l))
-run_start k n b j l out =
-    let p : n - 0 ≡ n = omega arith in
-    let q : b + k * 0 ≡ b = omega arith in
-    ap₂ (λ (m : ℕ) (c : ℕ). sets out j (numbers k m (drop c l))) p q
+-- and its bytes are there
+pub within_run : (k i n b m : ℕ) → i < n → b + k * n ≤ m → b + k * i + k ≤ m
+within_run k i n b m h q = omega (arith, mul-le-mul_left k (add-one-le h))
 
 -- ---- bytes of a number
 
-pub byte_turn : (k x j : ℕ) (out : List ℕ) → 0 < k
-    → sets out j (text_of (bytes_in k x)) ≡ sets (sets out j (text_of (x / 2 ^ (8 * (k - 1)) % 256 ∷ []))) (j + 2) (text_of (bytes_in (k - 1) x))
+-- byte i of k, two digits at place j
+pub byte_turn : (k i x j : ℕ) (out : List ℕ) → i < k
+    → sets out j (text_of (bytes_in (k - i) x)) ≡ sets (sets out j (text_of (x / 2 ^ (8 * (k - 1 - i)) % 256 ∷ []))) (j + 2) (text_of (bytes_in (k - (i + 1)) x))
 unfolding text_of bytes_in
-byte_turn k x j out h =
-    let e : k ≡ suc (k - 1) = omega arith in
+byte_turn k i x j out h =
+    let e : k - i ≡ suc (k - 1 - i) = omega arith in
+    let f : k - 1 - i ≡ k - (i + 1) = omega arith in
     let q : suc (suc j) ≡ j + 2 = omega arith in
     ap (λ (m : ℕ). sets out j (text_of (bytes_in m x))) e
-    ∙ ap (λ (m : ℕ). sets (sets out j (text_of (x / 2 ^ (8 * (k - 1)) % 256 ∷ []))) m (text_of (bytes_in (k - 1) x))) q
+    ∙ ap₂ (λ (m : ℕ) (n : ℕ). sets (sets out j (text_of (x / 2 ^ (8 * (k - 1 - i)) % 256 ∷ []))) m (text_of (bytes_in n x))) q f
 
 pub byte_end : (k x j : ℕ) (out : List ℕ) → k ≤ 0 → sets out j (text_of (bytes_in k x)) ≡ out
 unfolding text_of bytes_in

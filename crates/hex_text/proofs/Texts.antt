@@ -1,11 +1,11 @@
 -- Texts: their lengths, and one after another.
-use Prim.Native.Nat.{ℕ, zero, suc, ◌+◌, ◌-◌, ◌*◌, ◌≤◌, ◌<◌}
+use Prim.Native.Nat.{ℕ, zero, suc, ◌+◌, ◌*◌, ◌≤◌, ◌<◌}
 use native.Mathlib.Omega.{arith}
-use native.Mathlib.Numerals.{add-one}
 use mathlib.Core.Path.{◌≡◌, refl, sym, ap, ◌∙◌}
-use mathlib.Core.List.{List, [], ◌∷◌, ◌++◌}
-use lib.ListN.{length, get_or, drop, length-append, drop_of_length-le}
-use lib.Seq.{sets, drop-cons}
+use mathlib.Core.List.{List, [], ◌∷◌, ◌++◌, map}
+use lib.ListN.{length, get_or, drop, length-append}
+use lib.Seq.{sets}
+use Rattle.std.proofs.lemmas.List.{at_drop_more, at_drop_all}
 use Rattle.hex_text.specs.Hex.{text_of, bytes_in, bytes_each}
 use Rattle.lists.proofs.Slices.{sets_append}
 
@@ -29,20 +29,20 @@ unfolding bytes_each
 each_long k [] = omega arith
 each_long k (x ∷ l) = omega (arith, length-append (bytes_in k x) (bytes_each k l), in_long k x, each_long k l)
 
--- number i of the list, k bytes at place j
-pub each_turn : (k i j : ℕ) (l out : List ℕ) → i < length l
-    → sets out j (text_of (bytes_each k (drop i l))) ≡ sets (sets out j (text_of (bytes_in k (get_or l i 0)))) (j + 2 * k) (text_of (bytes_each k (drop (i + 1) l)))
+-- number i of the list is x: its k bytes at place j
+pub each_turn : {A : Type 0} (f : A → ℕ) (k i j : ℕ) (l : List A) (x : A) (out : List ℕ) → i < length l → x ≡ get_or l i x
+    → sets out j (text_of (bytes_each k (map f (drop i l)))) ≡ sets (sets out j (text_of (bytes_in k (f x)))) (j + 2 * k) (text_of (bytes_each k (map f (drop (i + 1) l))))
 unfolding bytes_each
-each_turn k i j l out h =
-    let head = bytes_in k (get_or l i 0) in
-    let rest = bytes_each k (drop (i + 1) l) in
-    let q : length (text_of head) ≡ 2 * k = text_long head ∙ ap (λ (n : ℕ). 2 * n) (in_long k (get_or l i 0)) in
-    ap (λ (m : List ℕ). sets out j (text_of (bytes_each k m))) (drop-cons l i 0 h)
-    ∙ ap (λ (n : ℕ). sets out j (text_of (head ++ bytes_each k (drop n l)))) (sym (add-one i))
+each_turn f k i j l x out h e =
+    let head = bytes_in k (f x) in
+    let rest = bytes_each k (map f (drop (i + 1) l)) in
+    let q : length (text_of head) ≡ 2 * k = text_long head ∙ ap (λ (n : ℕ). 2 * n) (in_long k (f x)) in
+    at_drop_more (λ r. sets out j (text_of (bytes_each k (map f r)))) l i x h
+    ∙ ap (λ y. sets out j (text_of (bytes_in k (f y) ++ rest))) (sym e)
     ∙ ap (sets out j) (text_append head rest)
     ∙ sets_append out j (text_of head) (text_of rest)
     ∙ ap (λ (n : ℕ). sets (sets out j (text_of head)) (j + n) (text_of rest)) q
 
-pub each_end : (k i j : ℕ) (l out : List ℕ) → length l ≤ i → sets out j (text_of (bytes_each k (drop i l))) ≡ out
+pub each_end : {A : Type 0} (f : A → ℕ) (k i j : ℕ) (l : List A) (out : List ℕ) → length l ≤ i → sets out j (text_of (bytes_each k (map f (drop i l)))) ≡ out
 unfolding bytes_each text_of
-each_end k i j l out h = ap (λ (m : List ℕ). sets out j (text_of (bytes_each k m))) (drop_of_length-le l {i = i} h)
+each_end f k i j l out h = at_drop_all (λ r. sets out j (text_of (bytes_each k (map f r)))) l i h

@@ -1,61 +1,41 @@
 // docs/RULES.md, "Frames": lower-case hexadecimal, big-endian. A line is read where it stands, digit by digit, so nothing bounds its length.
 #![tactic(auto)]
 
-ghost use Rattle.std.specs.Prelude.{◌≡◌, ◌+◌, ◌*◌, ◌/◌, ◌<◌, ◌≤◌, [], ◌∷◌, length, get_or, take, drop};
+ghost use Rattle.std.specs.Prelude.{◌≡◌, ℕ, ◌+◌, ◌*◌, ◌<◌, ◌≤◌, [], ◌∷◌, length, get_or, map, take, drop};
+ghost use Rattle.std.proofs.Common.{rules};
 ghost use Rattle.std.proofs.lemmas.List.Edits.{sets};
-ghost use Rattle.hex_text.specs.Hex.{between, is_digit, digit_value, is_hex, bytes_of, number, numbers, digit_of, text_of, bytes_in, bytes_each};
+ghost use Rattle.hex_text.specs.Hex.{is_digit, digit_value, is_hex, bytes_of, number, numbers, digit_of, text_of, bytes_in, bytes_each};
 
 // ---- digits
-
-// From a to z.
-fn between(a: u8, z: u8, b: u8) -> bool
-    ensures { result ≡ between a z b }
-{
-    a <= b && b <= z
-}
 
 fn is_digit(b: u8) -> bool
     ensures { result ≡ is_digit b }
 {
-    if between(b'0', b'9', b) {
-        return true;
-    }
-    between(b'a', b'f', b)
+    matches!(b, b'0'..=b'9' | b'a'..=b'f')
 }
 
 // The value of a digit, and 0 of any other byte.
 fn digit(b: u8) -> u8
     ensures { (result ≡ digit_value b) × (result < 16) }
 {
-    if between(b'0', b'9', b) {
-        return b - 48;
+    match b {
+        b'0'..=b'9' => b - b'0',
+        b'a'..=b'f' => b - b'a' + 10,
+        _ => 0,
     }
-    if between(b'a', b'f', b) {
-        return b - 87;
-    }
-    0
 }
 
 // Digits only, and in pairs.
 pub fn is_hex(line: &[u8]) -> bool
     ensures { result ≡ is_hex line.now }
 {
-    if line.len() % 2 != 0 {
-        return false;
-    }
-    let mut i = 0;
-    while i < line.len() {
-        if !is_digit(line[i]) {
-            return false;
-        }
-        i += 1;
-    }
-    true
+    line.len() % 2 == 0 && line.iter().all(|b| is_digit(*b))
 }
 
 // ---- numbers in a line
 
 // How many bytes a line has.
+#[tactic(auto, using(crate::proofs::Bytes::byte_count))]
 pub fn byte_count(line: &[u8]) -> usize
     ensures { result ≡ length (bytes_of line.now) }
 {
@@ -63,16 +43,16 @@ pub fn byte_count(line: &[u8]) -> usize
 }
 
 // Byte i of a line.
+#[tactic(auto, using(crate::proofs::Bytes::byte_count, crate::proofs::Bytes::byte_is))]
 pub fn byte_at(line: &[u8], i: usize) -> u8
     requires { i < length (bytes_of line.now) }
     ensures { result ≡ get_or (bytes_of line.now) i 0 }
 {
-    let high = 2 * i;
-    let low = high + 1;
-    16 * digit(line[high]) + digit(line[low])
+    16 * digit(line[2 * i]) + digit(line[2 * i + 1])
 }
 
 // The two bytes from byte i on.
+#[tactic(auto, unfolding(crate::specs::Hex::number), using(crate::proofs::Bytes::byte_count, crate::proofs::Bytes::two_bytes))]
 pub fn u16_at(line: &[u8], i: usize) -> u16
     requires { i + 2 ≤ length (bytes_of line.now) }
     ensures { result ≡ number (take 2 (drop i (bytes_of line.now))) }
@@ -81,6 +61,7 @@ pub fn u16_at(line: &[u8], i: usize) -> u16
 }
 
 // The eight bytes from byte i on.
+#[tactic(auto, using(crate::proofs::Bytes::byte_count, crate::proofs::Bytes::eight_bytes))]
 pub fn u64_at(line: &[u8], i: usize) -> u64
     requires { i + 8 ≤ length (bytes_of line.now) }
     ensures { result ≡ number (take 8 (drop i (bytes_of line.now))) }
@@ -92,32 +73,6 @@ pub fn u64_at(line: &[u8], i: usize) -> u64
     ((a * 65536 + b) * 65536 + c) * 65536 + d
 }
 
-// n numbers of two bytes, from a byte of the line into out from a place on.
-pub fn read_u16s(line: &[u8], from: usize, n: usize, out: &mut [u32], at: usize)
-    requires { (from + 2 * n ≤ length (bytes_of line.now)) × (at + n ≤ length out.old) }
-    ensures { out.new ≡ sets out.old at (numbers 2 n (drop from (bytes_of line.now))) }
-{
-    let mut i = 0;
-    while i < n {
-        let x = u16_at(line, from + 2 * i) as u32;
-        let to = at + i;
-        out[to] = x;
-        i += 1;
-    }
-}
-
-// The same of numbers of eight bytes, to the front.
-pub fn read_u64s(line: &[u8], from: usize, n: usize, out: &mut [u64])
-    requires { (from + 8 * n ≤ length (bytes_of line.now)) × (n ≤ length out.old) }
-    ensures { out.new ≡ sets out.old 0 (numbers 8 n (drop from (bytes_of line.now))) }
-{
-    let mut i = 0;
-    while i < n {
-        out[i] = u64_at(line, from + 8 * i);
-        i += 1;
-    }
-}
-
 // ---- writing
 
 // The digit of a value below 16.
@@ -125,20 +80,20 @@ fn digit_of(v: u8) -> u8
     requires { v < 16 }
     ensures { result ≡ digit_of v }
 {
-    if v < 10 {
-        return v + 48;
+    match v {
+        0..=9 => b'0' + v,
+        _ => b'a' + (v - 10),
     }
-    v + 87
 }
 
 // A byte, as two digits.
+#[tactic(auto, unfolding(crate::specs::Hex::text_of))]
 pub fn write_byte(b: u8, out: &mut [u8], at: usize)
     requires { at + 2 ≤ length out.old }
     ensures { out.new ≡ sets out.old at (text_of (b ∷ [])) }
 {
-    let next = at + 1;
     out[at] = digit_of(b / 16);
-    out[next] = digit_of(b % 16);
+    out[at + 1] = digit_of(b % 16);
 }
 
 // A number as k bytes.
@@ -146,14 +101,107 @@ pub fn write_number(x: u64, k: usize, out: &mut [u8], at: usize)
     requires { (k ≤ 8) × (at + 2 * k ≤ length out.old) }
     ensures { out.new ≡ sets out.old at (text_of (bytes_in k x)) }
 {
-    let mut to = at;
-    let mut left = k;
-    while 0 < left {
-        left -= 1;
-        let b = ((x >> (8 * left)) % 256) as u8;
-        write_byte(b, out, to);
-        to += 2;
+    for i in 0..k {
+        let right = 8 * (k - 1 - i);
+        write_byte(((x >> right) % 256) as u8, out, at + 2 * i);
     }
+}
+
+// ---- numbers of one width
+
+// A number that stands in a line as BYTES bytes.
+pub trait Number: Copy {
+    const BYTES: usize;
+
+    ghost BYTES: { ℕ };
+
+    ghost value: { Self → ℕ };
+
+    // The number from byte i of a line on.
+    fn read(line: &[u8], i: usize) -> Self
+        requires { i + BYTES ≤ length (bytes_of line.now) }
+        ensures { value result ≡ number (take BYTES (drop i (bytes_of line.now))) };
+
+    fn to_u64(self) -> u64
+        ensures { result ≡ value self };
+
+    ghost few: { BYTES ≤ 8 };
+}
+
+// An index or a count.
+impl Number for u32 {
+    const BYTES: usize = 2;
+
+    ghost BYTES = { 2 };
+
+    ghost value = { λ x. x };
+
+    ghost few = { Prim.search rules };
+
+    fn read(line: &[u8], i: usize) -> u32 {
+        u16_at(line, i) as u32
+    }
+
+    fn to_u64(self) -> u64 {
+        self as u64
+    }
+}
+
+// The bits of a probability, or a word of a row.
+impl Number for u64 {
+    const BYTES: usize = 8;
+
+    ghost BYTES = { 8 };
+
+    ghost value = { λ x. x };
+
+    ghost few = { Prim.search rules };
+
+    fn read(line: &[u8], i: usize) -> u64 {
+        u64_at(line, i)
+    }
+
+    fn to_u64(self) -> u64 {
+        self
+    }
+}
+
+// n numbers, from a byte of the line into out from a place on.
+fn read_numbers<T: Number>(line: &[u8], from: usize, n: usize, out: &mut [T], at: usize)
+    requires { (from + T.BYTES * n ≤ length (bytes_of line.now)) × (at + n ≤ length out.old) }
+    ensures { map T.value out.new ≡ sets (map T.value out.old) at (numbers T.BYTES n (drop from (bytes_of line.now))) }
+{
+    for i in 0..n {
+        out[at + i] = T::read(line, from + T::BYTES * i);
+    }
+}
+
+// Numbers as BYTES bytes each.
+fn write_numbers<T: Number>(list: &[T], out: &mut [u8], at: usize)
+    requires { at + 2 * T.BYTES * length list.now ≤ length out.old }
+    ensures { out.new ≡ sets out.old at (text_of (bytes_each T.BYTES (map T.value list.now))) }
+{
+    let mut to = at;
+    for x in list {
+        write_number(x.to_u64(), T::BYTES, out, to);
+        to += 2 * T::BYTES;
+    }
+}
+
+// Numbers of two bytes.
+pub fn read_u16s(line: &[u8], from: usize, n: usize, out: &mut [u32], at: usize)
+    requires { (from + 2 * n ≤ length (bytes_of line.now)) × (at + n ≤ length out.old) }
+    ensures { out.new ≡ sets out.old at (numbers 2 n (drop from (bytes_of line.now))) }
+{
+    read_numbers(line, from, n, out, at)
+}
+
+// Numbers of eight bytes, to the front.
+pub fn read_u64s(line: &[u8], from: usize, n: usize, out: &mut [u64])
+    requires { (from + 8 * n ≤ length (bytes_of line.now)) × (n ≤ length out.old) }
+    ensures { out.new ≡ sets out.old 0 (numbers 8 n (drop from (bytes_of line.now))) }
+{
+    read_numbers(line, from, n, out, 0)
 }
 
 // Numbers as eight bytes each.
@@ -161,13 +209,7 @@ pub fn write_u64s(list: &[u64], out: &mut [u8], at: usize)
     requires { at + 16 * length list.now ≤ length out.old }
     ensures { out.new ≡ sets out.old at (text_of (bytes_each 8 list.now)) }
 {
-    let mut to = at;
-    let mut i = 0;
-    while i < list.len() {
-        write_number(list[i], 8, out, to);
-        to += 16;
-        i += 1;
-    }
+    write_numbers(list, out, at)
 }
 
 // Numbers as two bytes each.
@@ -175,12 +217,5 @@ pub fn write_u16s(list: &[u32], out: &mut [u8], at: usize)
     requires { at + 4 * length list.now ≤ length out.old }
     ensures { out.new ≡ sets out.old at (text_of (bytes_each 2 list.now)) }
 {
-    let mut to = at;
-    let mut i = 0;
-    while i < list.len() {
-        let x = list[i] as u64;
-        write_number(x, 2, out, to);
-        to += 4;
-        i += 1;
-    }
+    write_numbers(list, out, at)
 }

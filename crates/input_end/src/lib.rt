@@ -8,7 +8,8 @@ ghost use Rattle.session.specs.Kept.{Kept};
 ghost use Rattle.frames.specs.LineLaws.{unended};
 ghost use Rattle.input_end.specs.Finish.{Finishes};
 
-use session::{Numbers, Told};
+use session::Numbers;
+use std::ops::ControlFlow;
 
 // All that is left to write, at the front of an output of 1,101 bytes and more. Long for its parameters, one a line.
 pub fn finish(
@@ -31,9 +32,8 @@ pub fn finish(
     if used == 0 {
         return session::write_end(numbers, out);
     }
-    let room = session::LONGEST_REPLY;
     let told = session::answer_line(
-        &line[0..used],
+        &line[..used],
         numbers,
         probability_bits,
         counts,
@@ -43,13 +43,11 @@ pub fn finish(
         edge_v,
         edge_weight,
         edge_obs,
-        &mut out[0..room],
+        &mut out[..session::LONGEST_REPLY],
     );
     match told {
-        Told::Ended { written } => written,
-        Told::On {
-            numbers: last,
-            written,
-        } => written + session::write_end(last, &mut out[written..]),
+        ControlFlow::Break(written) => written,
+        ControlFlow::Continue(on) => on.written
+            + session::write_end(on.numbers, &mut out[on.written..]),
     }
 }

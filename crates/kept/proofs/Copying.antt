@@ -5,11 +5,11 @@ use native.Mathlib.Omega.{arith}
 use mathlib.Core.Path.{◌≡◌, refl, sym, ap, ◌∙◌}
 use mathlib.Core.List.{List, [], ◌∷◌, ◌++◌, append-nil}
 use mathlib.Core.Bool.{cond}
-use lib.ListN.{length, get_or, set, take, drop, length-append, length-take, length-drop, length-set}
+use lib.ListN.{length, get_or, set, take, drop, length-append, length-take, length-drop}
 use borrow.Author.Tests.{le-leb, lt-leb}
 use Rattle.dem.specs.Tables.{written}
-use Rattle.kept.specs.Columns.{kept_by, kept_parts, Copied}
-use Rattle.kept.proofs.Written.{length_written, written_set, written_paste}
+use Rattle.kept.specs.Columns.{kept_by, kept_parts}
+use Rattle.kept.proofs.Written.{written_set, written_paste}
 
 module _ {A : Type 0} (ds : List ℕ) (f : ℕ → A) (was : List A) where
   -- the first i mechanisms are done
@@ -47,9 +47,6 @@ module _ {A : Type 0} (ds : List ℕ) (f : ℕ → A) (was : List A) where
   copy_left i at out h d =
       let e = column_left_lem i d in
       record { few = omega (arith, h.few); counted = h.counted ∙ sym (ap length e); copied = h.copied ∙ ap (λ (l : List A). written l was) (sym e) }
-
-  pub copy_long : (i at : ℕ) (out : List A) → Copying i at out → i ≤ length was → length out ≡ length was
-  copy_long i at out h l = ap length h.copied ∙ length_written (kept_by i ds f) was (omega (arith, h.few, h.counted))
 
 module _ {A : Type 0} (ds : List ℕ) (start : ℕ → ℕ) (xs was : List A) where
   pub record Pasting (i at : ℕ) (out : List A) : Type 0 where
@@ -96,11 +93,3 @@ module _ {A : Type 0} (ds : List ℕ) (start : ℕ → ℕ) (xs was : List A) wh
   paste_left i at out h d l =
       let e = parts_left i d in
       record { few = omega (arith, h.few); counted = h.counted ∙ sym (ap length e); copied = h.copied ∙ ap (λ (p : List A). written p was) (sym e) }
-
-  pub paste_long : (i at : ℕ) (out : List A) → Pasting i at out → start i ≤ length was → length out ≡ length was
-  paste_long i at out h l = ap length h.copied ∙ length_written (kept_parts i ds start xs) was (omega (arith, h.few, h.counted))
-
--- a list copied to a place of a table keeps the table's length
-pub pasted_long : {A : Type 0} (at : ℕ) (out part : List A) → at + length part ≤ length out → length (take at out ++ (part ++ drop (at + length part) out)) ≡ length out
-pasted_long at out part h =
-    omega (arith, length-append (take at out) (part ++ drop (at + length part) out), length-append part (drop (at + length part) out), length-take at out, length-drop (at + length part) out)

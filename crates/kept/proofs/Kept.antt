@@ -1,25 +1,24 @@
 -- The tables of the kept mechanisms are what is copied.
-use Prim.Native.Nat.{ℕ, zero, suc, ◌+◌, ◌-◌, ◌<◌, ◌≤◌}
+use Prim.Native.Nat.{ℕ, zero, suc, ◌+◌, ◌-◌, ◌≤◌}
 use native.Mathlib.Nat.{not-suc-le-zero}
 use native.Mathlib.Numerals.{add-one}
 use native.Mathlib.Omega.{arith}
 use mathlib.Core.Path.{◌≡◌, refl, sym, ap, ap₂, ◌∙◌}
 use mathlib.Core.List.{List, [], ◌∷◌, ◌++◌, append_assoc, append-nil}
 use mathlib.Core.Bool.{Bool, true, false, cond}
-use lib.ListN.{length, get_or, take, drop, length-append, length-take, length-drop}
-use lib.Seq.{take-add, length-take-le, drop-drop}
+use lib.ListN.{length, get_or, take, drop, length-drop}
+use lib.Seq.{take-add, length-take-le}
 use lib.Dec.{leb}
 use lib.Ieee.{nan}
 use Rattle.lists.specs.Lists.{filter}
 use Rattle.lists.proofs.Ranges.{filter_append}
-use Rattle.dem.specs.declared.Mechanism.{Mechanism}
 use Rattle.dem.specs.declared.Place.{Place}
-use Rattle.dem.specs.Model.{Symptom, ErrorMechanism}
-use Rattle.dem.specs.Tables.{Tables, components_of, component_entries, first_of, first_entries, model_of, components_in, entries_in, tables_hold, symptom_entries, component_detectors, component_observables, tables_of}
-use Rattle.dem.specs.Positions.{tables, total, head_of, tables_at, mechanism_at, place_past, Inside, place_of, tables_from}
+use Rattle.dem.specs.Model.{ErrorMechanism}
+use Rattle.dem.specs.Tables.{Tables, components_of, component_entries, first_of, first_entries, model_of, components_in, entries_in, symptom_entries, component_detectors, component_observables, tables_of}
+use Rattle.dem.specs.Positions.{tables, total, head_of, mechanism_at, place_past, Inside, place_of}
 use Rattle.dem.specs.Laws.{Reached}
 use Rattle.dem.specs.Decompose.{is_graphlike, kept_of}
-use Rattle.dem.proofs.Positions.{first_from, model_split, place_next, components_sum, inside_of, reached_of, hold_of}
+use Rattle.dem.proofs.Positions.{first_from, model_split, place_next, components_sum, inside_of, hold_of}
 use Rattle.dem.proofs.Laws.{reached}
 use Rattle.kept.proofs.Sums.{sum_next}
 use Rattle.kept.specs.Columns.{kept_by, kept_parts, kept_tables}

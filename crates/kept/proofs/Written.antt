@@ -1,17 +1,14 @@
 -- What is written in front of the old contents grows at its end.
-use Prim.Native.Nat.{ℕ, suc, ◌+◌, ◌<◌, ◌≤◌}
+use Prim.Native.Nat.{ℕ, suc, ◌+◌, ◌<◌}
 use native.Mathlib.Numerals.{add-one}
 use native.Mathlib.Omega.{arith}
-use mathlib.Core.Path.{◌≡◌, refl, sym, ap, ◌∙◌}
+use mathlib.Core.Path.{◌≡◌, sym, ap, ◌∙◌}
 use mathlib.Core.List.{List, [], ◌∷◌, ◌++◌, append_assoc}
-use lib.ListN.{length, set, take, drop, length-append, length-drop}
+use lib.ListN.{length, set, take, drop, length-append}
 use lib.Seq.{drop-cons, set-append_seam, append_snoc, take-append_seam, drop-append-add, drop-drop}
 use Rattle.dem.specs.Tables.{written}
 
 module _ {A : Type 0} (new was : List A) where
-  pub length_written : length new ≤ length was → length (written new was) ≡ length was
-  length_written h = omega (arith, length-append new (drop (length new) was), length-drop (length new) was)
-
   pub written_set : (at : ℕ) (x : A) → at ≡ length new → at < length was → set (written new was) at x ≡ written (new ++ (x ∷ [])) was
   written_set at x e h =
       let n = length new in

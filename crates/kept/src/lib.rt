@@ -2,56 +2,30 @@
 #![tactic(auto)]
 
 ghost use Rattle.std.specs.Prelude.{◌+◌, ◌<◌, ◌≤◌, length, take};
-ghost use Rattle.std.specs.Float.{nan};
 ghost use Rattle.dem.specs.Positions.{total, tables};
 ghost use Rattle.kept.specs.Columns.{kept_column, kept_parts, Copied, Sized, Listed};
 
 use dem::Place;
 
+// of a kept mechanism
+const MOST_DETECTORS: u8 = 2;
+
 // ---- the columns
 
-// The probabilities of the kept mechanisms, and how many they are.
-pub fn copy_probabilities(
+// A column of the kept mechanisms, and how many they are.
+pub fn copy_column<T: Copy>(
     mechanisms: usize,
     detector_counts: &[u8],
-    probability: &[f64],
-    out: &mut [f64],
+    column: &[T],
+    out: &mut [T],
 ) -> usize
-    requires { (mechanisms ≤ length detector_counts.now) × (mechanisms ≤ length probability.now) × (mechanisms ≤ length out.old) }
-    ensures { Copied (kept_column nan mechanisms detector_counts.now probability.now) out.old result out.new }
+    requires { (mechanisms ≤ length detector_counts.now) × (mechanisms ≤ length column.now) × (mechanisms ≤ length out.old) }
+    ensures { (z : T) → Copied (kept_column z mechanisms detector_counts.now column.now) out.old result out.new }
 {
     let mut at = 0;
-    let mut i = 0;
-    while i < mechanisms {
-        let d = detector_counts[i];
-        let x = probability[i];
-        i += 1;
-        if d <= 2 {
-            out[at] = x;
-            at += 1;
-        }
-    }
-    at
-}
-
-// A column of counts of the kept mechanisms.
-pub fn copy_counts(
-    mechanisms: usize,
-    detector_counts: &[u8],
-    counts: &[u8],
-    out: &mut [u8],
-) -> usize
-    requires { (mechanisms ≤ length detector_counts.now) × (mechanisms ≤ length counts.now) × (mechanisms ≤ length out.old) }
-    ensures { Copied (kept_column 0 mechanisms detector_counts.now counts.now) out.old result out.new }
-{
-    let mut at = 0;
-    let mut i = 0;
-    while i < mechanisms {
-        let d = detector_counts[i];
-        let x = counts[i];
-        i += 1;
-        if d <= 2 {
-            out[at] = x;
+    for i in 0..mechanisms {
+        if detector_counts[i] <= MOST_DETECTORS {
+            out[at] = column[i];
             at += 1;
         }
     }
@@ -59,6 +33,7 @@ pub fn copy_counts(
 }
 
 // A column of the components of the kept mechanisms.
+#[tactic(auto, using(crate::proofs::Sums::sum_next, crate::proofs::Sums::sum_upto))]
 pub fn copy_components(
     mechanisms: usize,
     detector_counts: &[u8],
@@ -71,22 +46,19 @@ pub fn copy_components(
 {
     let mut at = 0;
     let mut end = 0;
-    let mut i = 0;
-    while i < mechanisms {
-        let d = detector_counts[i];
-        let c = component_counts[i] as usize;
+    for i in 0..mechanisms {
         let start = end;
-        end = start + c;
-        i += 1;
-        if d <= 2 {
-            tables::copy_bytes(&counts[start..end], out, at);
-            at += c;
+        end += component_counts[i] as usize;
+        if detector_counts[i] <= MOST_DETECTORS {
+            tables::copy_to(&counts[start..end], out, at);
+            at += end - start;
         }
     }
     at
 }
 
 // The entries of the kept mechanisms; starts has where each begins in the tables given. Long for its parameters, one a line.
+#[tactic(auto, using(dem::proofs::Positions::entries_le))]
 pub fn copy_entries(
     mechanisms: usize,
     probability: &[f64],
@@ -108,8 +80,7 @@ pub fn copy_entries(
     };
     let mut kept = 0;
     let mut at = 0;
-    let mut i = 0;
-    while i < mechanisms {
+    for i in 0..mechanisms {
         let h = dem::head(
             probability,
             detector_counts,
@@ -120,11 +91,10 @@ pub fn copy_entries(
         let start = place.entry;
         place = dem::past(h, place, component_detectors, component_observables);
         let end = place.entry;
-        i += 1;
-        if h.detectors <= 2 {
+        if h.detectors <= MOST_DETECTORS {
             starts[kept] = start as u32;
             kept += 1;
-            tables::copy_words(&entries[start..end], out, at);
+            tables::copy_to(&entries[start..end], out, at);
             at += end - start;
         }
     }

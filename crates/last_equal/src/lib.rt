@@ -4,7 +4,7 @@
 ghost use Rattle.std.specs.Prelude.{◌≡◌, true, false, ◌+◌, ◌<◌, ◌≤◌, length, get_or};
 ghost use Rattle.dem.specs.Decompose.{same_list, same_symptom};
 ghost use Rattle.cover.specs.Kept.{detectors_at, symptom_at, Detectors};
-ghost use Rattle.cover.specs.Search.{previous};
+ghost use Rattle.cover.specs.Search.{highest};
 ghost use Rattle.last_equal.specs.Last.{symptom_in, Chained, Linkable, Findable};
 
 // The two lists of a mechanism or a component: where they begin in the entries, and their lengths.
@@ -16,23 +16,15 @@ pub struct Span {
 }
 
 // Whether two lists are equal.
+#[tactic(auto, using(crate::proofs::Same::same_slices))]
 pub fn same_list(a: &[u32], b: &[u32]) -> bool
     ensures { result ≡ same_list a.now b.now }
 {
-    if a.len() != b.len() {
-        return false;
-    }
-    let mut i = 0;
-    while i < a.len() {
-        if a[i] != b[i] {
-            return false;
-        }
-        i += 1;
-    }
-    true
+    a == b
 }
 
 // Whether mechanism k has the lists of s.
+#[tactic(auto, unfolding(dem::specs::Decompose::same_symptom))]
 pub fn same_at(
     starts: &[u32],
     detector_counts: &[u8],
@@ -50,10 +42,7 @@ pub fn same_at(
     let b0 = s.at;
     let b1 = b0 + s.detectors as usize;
     let b2 = b1 + s.observables as usize;
-    if !same_list(&entries[a0..a1], &entries[b0..b1]) {
-        return false;
-    }
-    same_list(&entries[a1..a2], &entries[b1..b2])
+    same_list(&entries[a0..a1], &entries[b0..b1]) && same_list(&entries[a1..a2], &entries[b1..b2])
 }
 
 // Mechanism k is linked in, where it has a detector.
@@ -88,16 +77,13 @@ pub fn index_last(
     requires { Detectors starts.now detector_counts.now entries.now kept (length last_of.old) × (kept ≤ length before.old) }
     ensures { Chained (detectors_at starts.now detector_counts.now entries.now) kept last_of.new before.new }
 {
-    tables::fill_u32(last_of, 0);
-    let mut next = 0;
-    while next < kept {
-        let k = next;
-        next += 1;
+    last_of.fill(0);
+    for k in 0..kept {
         link(starts, detector_counts, entries, k, last_of, before);
     }
 }
 
-// The number past the last of the first `mechanisms` with the lists of s, or 0.
+// The last of the first `mechanisms` with the lists of s.
 pub fn find_last(
     s: Span,
     mechanisms: usize,
@@ -107,19 +93,18 @@ pub fn find_last(
     observable_counts: &[u8],
     last_of: &[u32],
     before: &[u32],
-) -> usize
+) -> Option<usize>
     requires { Findable s mechanisms entries.now starts.now detector_counts.now observable_counts.now last_of.now before.now }
-    ensures { result ≡ previous (λ k. same_symptom (symptom_at starts.now detector_counts.now observable_counts.now entries.now k) (symptom_in entries.now s)) mechanisms }
+    ensures { result ≡ highest (λ k. same_symptom (symptom_at starts.now detector_counts.now observable_counts.now entries.now k) (symptom_in entries.now s)) mechanisms }
 {
-    let first = s.at;
-    let d = entries[first] as usize;
+    let d = entries[s.at] as usize;
     let mut next = last_of[d] as usize;
     while 0 < next {
         let k = next - 1;
         if same_at(starts, detector_counts, observable_counts, entries, k, s) {
-            return next;
+            return Some(k);
         }
         next = before[k] as usize;
     }
-    0
+    None
 }

@@ -1,4 +1,5 @@
 -- What an accepted call leaves true, proved.
+use Rattle.std.specs.Prelude.{Ok}
 use Prim.Native.Nat.{ℕ, ◌*◌, ◌≤◌, ◌<◌}
 use native.Mathlib.Omega.{arith}
 use mathlib.Core.Path.{◌≡◌, ◌∙◌}
@@ -13,7 +14,6 @@ use Rattle.lists.proofs.Truth.{and_left, and_right}
 use Rattle.lists.proofs.Members.{get_d_any, get_d_below}
 use Rattle.bits.specs.Rows.{words}
 use Rattle.codes.specs.declared.Refusal.TheVariants.{Short, Width}
-use Rattle.codes.specs.declared.Checked.TheVariants.{Accepted}
 use Rattle.codes.specs.Order.{refuse_if, and_then}
 use Rattle.codes.specs.Limits.{check_counts, check_shots}
 use Rattle.packed.specs.Packed.{check_packed}
@@ -31,14 +31,14 @@ use Rattle.lent_graph.specs.Accepts.{EdgeIn, CallAccepted}
 -- ---- the tests, one by one
 
 record Tests (l : Lent) (own : Bool) (rows : List ℕ) (shots width : ℕ) : Type 0 where
-  counts : check_counts l.detectors l.observables l.edges ≡ Accepted
+  counts : check_counts l.detectors l.observables l.edges ≡ Ok tt
   tables : tables_in l ≡ true
   own_long : own ≡ true
-  edges : check_edges (graph_in l) (below l.edges) ≡ Accepted
-  pack : check_packed rows shots width ≡ Accepted
+  edges : check_edges (graph_in l) (below l.edges) ≡ Ok tt
+  pack : check_packed rows shots width ≡ Ok tt
   wide : width ≡ l.detectors
 
-tests : (l : Lent) (own : Bool) (rows : List ℕ) (shots width : ℕ) → check_call l own rows shots width ≡ Accepted → Tests l own rows shots width
+tests : (l : Lent) (own : Bool) (rows : List ℕ) (shots width : ℕ) → check_call l own rows shots width ≡ Ok tt → Tests l own rows shots width
 unfolding check_call check_rows
 tests l own rows shots width h =
     let d = l.detectors in
@@ -75,7 +75,7 @@ module _ (l : Lent) where
   unfolding graph_of
   counted t = length-take-le l.edges l.u t.ends
 
-  whole : check_counts l.detectors l.observables l.edges ≡ Accepted → tables_in l ≡ true → check_edges (graph_in l) (below l.edges) ≡ Accepted → AcceptedGraph (graph_in l)
+  whole : check_counts l.detectors l.observables l.edges ≡ Ok tt → tables_in l ≡ true → check_edges (graph_in l) (below l.edges) ≡ Ok tt → AcceptedGraph (graph_in l)
   unfolding check_lent
   whole a t e = lent_accepted l.detectors l.observables l.edges l.u l.v l.weight l.obs (rw (a, t) e)
 

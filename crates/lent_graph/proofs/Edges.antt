@@ -1,4 +1,5 @@
 -- One edge of a lent graph, and the edges from one on.
+use Rattle.std.specs.Prelude.{Ok, Err}
 use Prim.Native.Nat.{ℕ, zero, suc, ◌+◌, ◌-◌, ◌*◌, ◌≤◌, ◌<◌}
 use native.Mathlib.Omega.{arith}
 use native.Mathlib.Nat.{mul-le-mul, mul-le-mul_right, suc-mul}
@@ -12,9 +13,8 @@ use borrow.Author.Tests.{eq-eqb}
 use Rattle.lists.specs.Lists.{from, below}
 use Rattle.lists.proofs.Members.{length_below, below_at}
 use Rattle.bits.specs.Rows.{words}
-use Rattle.codes.specs.declared.Checked.{Checked}
-use Rattle.codes.specs.declared.Checked.TheVariants.{Accepted}
-use Rattle.codes.specs.Order.{and_then}
+use Rattle.codes.specs.declared.Refusal.{Refusal}
+use Rattle.codes.specs.Order.{Checked, and_then}
 use Rattle.codes.specs.Limits.{max_observables, max_mechanisms}
 use Rattle.steps.specs.Graph.{boundary}
 use Rattle.steps.specs.Call.{graph_of, ends_fit, observables_fit, check_edge, check_edges}
@@ -69,17 +69,28 @@ module _ (d o n : ℕ) (u v : List ℕ) (weight : List Float) (obs : List ℕ) w
       let el : length row ≡ words o = simp (length-take, length-drop) (omega arith) in
       rw (eu, ev, er, get_or-take n weight e nan h, not_not, eq-eqb _ _ el)
 
-  -- the check from edge e on: edge e, then the rest; its row as the code lends it
-  pub edges_turn : (e w : ℕ) (q : Checked) → e < n → n ≤ length u → n ≤ length v → n ≤ length weight → n * words o ≤ length obs → w ≡ words o
-      → q ≡ check_row d o e (get_or u e 0) (get_or v e 0) (get_or weight e nan) (take (e * w + w - e * w) (drop (e * w) obs))
-      → and_then q (check_edges (graph_of d o n u v weight obs) (from (n - (e + 1)) (e + 1))) ≡ check_edges (graph_of d o n u v weight obs) (from (n - e) e)
+  -- the check of edge e, its row as the code lends it
+  abbrev Row : ℕ → Checked
+  Row e = check_row d o e (get_or u e 0) (get_or v e 0) (get_or weight e nan) (take (e * words o + words o - e * words o) (drop (e * words o) obs))
+
+  -- the check from edge e on: edge e, then the rest
+  edges_turn : (e : ℕ) → e < n → n ≤ length u → n ≤ length v → n ≤ length weight → n * words o ≤ length obs
+      → check_edges (graph_of d o n u v weight obs) (from (n - e) e) ≡ and_then (Row e) (check_edges (graph_of d o n u v weight obs) (from (n - (e + 1)) (e + 1)))
   unfolding check_edges from
-  edges_turn e w q h hu hv hw ho ew t =
+  edges_turn e h hu hv hw ho =
       let k : n - e ≡ suc (n - (e + 1)) = omega arith in
       let one : e + 1 ≡ suc e = omega arith in
-      let m : e * w + w - e * w ≡ w = omega arith in
-      rw (k, t, m, ew, ← edge_is e h hu hv hw ho, one)
+      let m : e * words o + words o - e * words o ≡ words o = omega arith in
+      rw (k, m, ← edge_is e h hu hv hw ho, one)
 
-  pub edges_end : (e : ℕ) → n ≤ e → check_edges (graph_of d o n u v weight obs) (from (n - e) e) ≡ Accepted
+  pub edges_refused : (e : ℕ) (r : Refusal) → e < n → n ≤ length u → n ≤ length v → n ≤ length weight → n * words o ≤ length obs → Row e ≡ Err r
+      → check_edges (graph_of d o n u v weight obs) (from (n - e) e) ≡ Err r
+  edges_refused e r h hu hv hw ho t = rw (edges_turn e h hu hv hw ho, t)
+
+  pub edges_on : (e : ℕ) → e < n → n ≤ length u → n ≤ length v → n ≤ length weight → n * words o ≤ length obs → Row e ≡ Ok tt
+      → check_edges (graph_of d o n u v weight obs) (from (n - (e + 1)) (e + 1)) ≡ check_edges (graph_of d o n u v weight obs) (from (n - e) e)
+  edges_on e h hu hv hw ho t = rw (edges_turn e h hu hv hw ho, t)
+
+  pub edges_end : (e : ℕ) → n ≤ e → check_edges (graph_of d o n u v weight obs) (from (n - e) e) ≡ Ok tt
   unfolding check_edges from
   edges_end e h = let k : n - e ≡ 0 = omega arith in rw k

@@ -1,15 +1,14 @@
 -- The law of the check, proved. Assumes nothing.
 use Prim.Native.Nat.{ℕ, ◌*◌, ◌≤◌}
+use native.Mathlib.Omega.{arith}
 use mathlib.Core.Path.{◌≡◌, sym, ◌∙◌}
 use mathlib.Core.List.{List}
-use mathlib.Core.Bool.{true, not, ◌&&◌}
-use lib.Dec.{leb}
+use mathlib.Core.Bool.{true, not}
 use lib.Ieee.{Float}
 use lib.ListN.{length, take}
 use lib.Seq.{length-take-le}
-use borrow.Author.Tests.{leb-true, not-false}
+use borrow.Author.Tests.{not-false}
 use Rattle.lists.specs.Lists.{below}
-use Rattle.lists.proofs.Truth.{and_left, and_right}
 use Rattle.lists.proofs.Members.{length_below}
 use Rattle.bits.specs.Rows.{words}
 use Rattle.codes.specs.declared.Refusal.TheVariants.{Short}
@@ -31,15 +30,7 @@ pub record Long (o edges : ℕ) (u v : List ℕ) (weight : List Float) (obs : Li
 module _ (o edges : ℕ) (u v : List ℕ) (weight : List Float) (obs : List ℕ) where
   pub long : tables_long o edges u v weight obs ≡ true → Long o edges u v weight obs
   unfolding tables_long
-  long h =
-      let q = and_right (leb edges (length u)) (leb edges (length v) && (leb edges (length weight) && leb (edges * words o) (length obs))) h in
-      let r = and_right (leb edges (length v)) (leb edges (length weight) && leb (edges * words o) (length obs)) q in
-      record {
-        ends = leb-true edges (length u) (and_left (leb edges (length u)) (leb edges (length v) && (leb edges (length weight) && leb (edges * words o) (length obs))) h);
-        others = leb-true edges (length v) (and_left (leb edges (length v)) (leb edges (length weight) && leb (edges * words o) (length obs)) q);
-        weights = leb-true edges (length weight) (and_left (leb edges (length weight)) (leb (edges * words o) (length obs)) r);
-        rows = leb-true (edges * words o) (length obs) (and_right (leb edges (length weight)) (leb (edges * words o) (length obs)) r);
-      }
+  long h = record { ends = grind arith; others = grind arith; weights = grind arith; rows = grind arith }
 
 pub lent_accepted : LentAccepted
 unfolding check_lent graph_of

@@ -1,7 +1,6 @@
 -- What an accepted call leaves true. Each statement is proved in proofs/ under the same name in small letters.
-use Rattle.std.specs.Prelude.{ℕ, ◌+◌, ◌*◌, ◌≤◌, ◌<◌, ◌≡◌, List, [], Bool, true, length, get_or}
+use Rattle.std.specs.Prelude.{Ok, ℕ, ◌+◌, ◌*◌, ◌≤◌, ◌<◌, ◌≡◌, List, [], Bool, true, length, get_or}
 use Rattle.bits.specs.Rows.{words, is_clear}
-use Rattle.codes.specs.declared.Checked.TheVariants.{Accepted}
 use Rattle.codes.specs.Limits.{max_detectors, max_observables, max_mechanisms, max_shots}
 use Rattle.packed.specs.Packed.{row_at}
 use Rattle.steps.specs.Graph.{Ends, inner, outer}
@@ -42,4 +41,4 @@ pub record Accepts (l : Lent) (long : Bool) (rows : List ℕ) (shots width : ℕ
   pub row_clear : (s : ℕ) → s < shots → is_clear l.detectors (row_at (words l.detectors) rows s) ≡ true
 
 abbrev pub CallAccepted : Type 0
-CallAccepted = (l : Lent) (long : Bool) (rows : List ℕ) (shots width : ℕ) → check_call l long rows shots width ≡ Accepted → Accepts l long rows shots width
+CallAccepted = (l : Lent) (long : Bool) (rows : List ℕ) (shots width : ℕ) → check_call l long rows shots width ≡ Ok tt → Accepts l long rows shots width

@@ -2,8 +2,7 @@
 use Rattle.std.specs.Prelude.{ℕ, List, Bool, not, ◌&&◌, eqb, Float}
 use Rattle.lists.specs.Lists.{below}
 use Rattle.codes.specs.declared.Refusal.TheVariants.{Short, Width}
-use Rattle.codes.specs.declared.Checked.{Checked}
-use Rattle.codes.specs.Order.{refuse_if, and_then}
+use Rattle.codes.specs.Order.{Checked, refuse_if, and_then}
 use Rattle.codes.specs.Limits.{check_counts, check_shots}
 use Rattle.packed.specs.Packed.{check_packed}
 use Rattle.steps.specs.Graph.{Graph}

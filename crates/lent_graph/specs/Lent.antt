@@ -4,8 +4,7 @@ use Rattle.lists.specs.Lists.{below}
 use Rattle.bits.specs.Rows.{words, is_clear}
 use Rattle.weight.specs.Weight.{weight_fits}
 use Rattle.codes.specs.declared.Refusal.TheVariants.{Short, Probability, Index}
-use Rattle.codes.specs.declared.Checked.{Checked}
-use Rattle.codes.specs.Order.{refuse_if, and_then}
+use Rattle.codes.specs.Order.{Checked, refuse_if, and_then}
 use Rattle.codes.specs.Limits.{check_counts}
 use Rattle.steps.specs.Graph.{boundary}
 use Rattle.steps.specs.Call.{graph_of, check_edges}

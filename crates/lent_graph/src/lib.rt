@@ -11,49 +11,38 @@ ghost use Rattle.lent_graph.specs.Lent.{ends_of, check_row, tables_long};
 ghost use Rattle.lent_graph.specs.Call.{lent_of, check_rows, check_call};
 
 use codes::{Checked, Refusal};
-use packed::Packed;
 
 // The second end of a boundary edge.
 pub const BOUNDARY: u32 = 4294967295;
 
 // Both ends are detectors, ascending, or the second is the boundary.
+#[tactic(auto, unfolding(crate::specs::Lent::ends_of))]
 fn ends_fit(detectors: usize, u: u32, v: u32) -> bool
     ensures { result ≡ ends_of detectors u v }
 {
-    if detectors <= u as usize {
-        return false;
-    }
-    if v == BOUNDARY {
-        return true;
-    }
-    if v <= u {
-        return false;
-    }
-    (v as usize) < detectors
+    (u as usize) < detectors && (v == BOUNDARY || (u < v && (v as usize) < detectors))
 }
 
 // No bit past the observables: only the last word has any.
+#[tactic(auto, unfolding(bits::specs::Rows::words), using(bits::proofs::Rows::clear_whole))]
 fn observables_fit(observables: usize, row: &[u64]) -> bool
     requires { length row.now ≡ words observables }
     ensures { result ≡ is_clear observables row.now }
 {
     let tail = observables % 64;
-    if tail == 0 {
-        return true;
-    }
-    let last = observables / 64;
-    row[last] <= (1 << tail) - 1
+    tail == 0 || row[observables / 64] <= (1 << tail) - 1
 }
 
 // From 0 to 1,024, or infinity; minus zero is 0, and NaN is neither.
+#[tactic(auto, unfolding(weight::specs::Weight::weight_fits))]
 fn weight_fits(w: f64) -> bool
     ensures { result ≡ weight_fits w }
 {
-    let infinity = f64::from_bits(0x7ff0_0000_0000_0000);
-    0.0 <= w && (w <= 1024.0 || w == infinity)
+    0.0 <= w && (w <= 1024.0 || w == f64::INFINITY)
 }
 
 // Edge e: its ends and observables (5), then its weight (4).
+#[tactic(auto, unfolding(crate::specs::Lent::check_row))]
 fn check_edge(
     detectors: usize,
     observables: usize,
@@ -66,19 +55,17 @@ fn check_edge(
     requires { length row.now ≡ words observables }
     ensures { result ≡ check_row detectors observables e u v weight row.now }
 {
-    if !ends_fit(detectors, u, v) {
-        return Checked::Refused(Refusal::Index { at: e });
-    }
-    if !observables_fit(observables, row) {
-        return Checked::Refused(Refusal::Index { at: e });
+    if !ends_fit(detectors, u, v) || !observables_fit(observables, row) {
+        return Err(Refusal::Index { at: e });
     }
     if !weight_fits(weight) {
-        return Checked::Refused(Refusal::Probability { at: e });
+        return Err(Refusal::Probability { at: e });
     }
-    Checked::Accepted
+    Ok(())
 }
 
 // Edge by edge, in tables that are long enough.
+#[tactic(auto, unfolding(lists::specs::Lists::below), using(crate::proofs::Edges::inside, crate::proofs::Edges::edges_refused, crate::proofs::Edges::edges_on, crate::proofs::Edges::edges_end))]
 pub fn check_edges(
     detectors: usize,
     observables: usize,
@@ -92,29 +79,23 @@ pub fn check_edges(
     ensures { result ≡ check_edges (graph_of detectors observables edges edge_u.now edge_v.now edge_weight.now edge_obs.now) (below edges) }
 {
     let n = bits::words(observables);
-    let mut next = 0;
-    while next < edges {
-        let e = next;
-        next += 1;
+    for e in 0..edges {
         let from = e * n;
-        let to = from + n;
-        let checked = check_edge(
+        check_edge(
             detectors,
             observables,
             e,
             edge_u[e],
             edge_v[e],
             edge_weight[e],
-            &edge_obs[from..to],
-        );
-        if let Checked::Refused(r) = checked {
-            return Checked::Refused(r);
-        }
+            &edge_obs[from..from + n],
+        )?;
     }
-    Checked::Accepted
+    Ok(())
 }
 
 // An entry for each edge in every table.
+#[tactic(auto, unfolding(crate::specs::Lent::tables_long))]
 pub fn tables_long(
     observables: usize,
     edges: usize,
@@ -126,33 +107,26 @@ pub fn tables_long(
     requires { (observables ≤ max_observables) × (edges ≤ max_mechanisms) }
     ensures { result ≡ tables_long observables edges edge_u.now edge_v.now edge_weight.now edge_obs.now }
 {
-    if edge_u.len() < edges {
-        return false;
-    }
-    if edge_v.len() < edges {
-        return false;
-    }
-    if edge_weight.len() < edges {
-        return false;
-    }
-    edges * bits::words(observables) <= edge_obs.len()
+    edges <= edge_u.len()
+        && edges <= edge_v.len()
+        && edges <= edge_weight.len()
+        && edges * bits::words(observables) <= edge_obs.len()
 }
 
 // 8, 9, then 10.
+#[tactic(auto, unfolding(crate::specs::Call::check_rows, packed::specs::Packed::packed_of))]
 fn check_rows(detectors: usize, rows: &[u64], shots: usize, width: usize) -> Checked
     ensures { result ≡ check_rows detectors rows.now shots width }
 {
-    let packed = packed::try_from_shot_major(rows, shots, width);
-    if let Packed::Refused(r) = packed {
-        return Checked::Refused(r);
-    }
+    packed::try_from_shot_major(rows, shots, width)?;
     if width != detectors {
-        return Checked::Refused(Refusal::Width);
+        return Err(Refusal::Width);
     }
-    Checked::Accepted
+    Ok(())
 }
 
 // 1, 2 (the tables, and whether the call's own slices are long enough), the graph, then 8, 9, 10. Long for its parameters, one a line.
+#[tactic(auto, unfolding(crate::specs::Call::check_call), using(codes::proofs::Checks::counts_within, crate::proofs::Laws::long))]
 pub fn check_call(
     detectors: usize,
     observables: usize,
@@ -168,21 +142,12 @@ pub fn check_call(
 ) -> Checked
     ensures { result ≡ check_call (lent_of detectors observables edges edge_u.now edge_v.now edge_weight.now edge_obs.now) long rows.now shots width }
 {
-    let counts = codes::check_counts(detectors, observables, edges);
-    if let Checked::Refused(r) = counts {
-        return Checked::Refused(r);
+    codes::check_counts(detectors, observables, edges)?;
+    codes::check_shots(shots)?;
+    if !tables_long(observables, edges, edge_u, edge_v, edge_weight, edge_obs) || !long {
+        return Err(Refusal::Short);
     }
-    let few = codes::check_shots(shots);
-    if let Checked::Refused(r) = few {
-        return Checked::Refused(r);
-    }
-    if !tables_long(observables, edges, edge_u, edge_v, edge_weight, edge_obs) {
-        return Checked::Refused(Refusal::Short);
-    }
-    if !long {
-        return Checked::Refused(Refusal::Short);
-    }
-    let graph = check_edges(
+    check_edges(
         detectors,
         observables,
         edges,
@@ -190,9 +155,6 @@ pub fn check_call(
         edge_v,
         edge_weight,
         edge_obs,
-    );
-    if let Checked::Refused(r) = graph {
-        return Checked::Refused(r);
-    }
+    )?;
     check_rows(detectors, rows, shots, width)
 }

@@ -10,100 +10,20 @@
 // The model of `dem` is one mechanism, its components have no entries. Before `mark` each word of the row is 99, and each bit of the scratch is set.
 #![tactic(auto)]
 
-ghost use Rattle.std.specs.Prelude.{◌≡◌, ◌≤◌, IfOk, length};
+ghost use Rattle.std.specs.Prelude.{◌≤◌, ◌<◌, IfOk, length};
 
 use codes::{Checked, Refusal};
 use marking::Marking;
-use packed::Packed;
 use std::io;
 use std::io::Read;
 
 const ONES: u64 = 18446744073709551615;
 
-// The words of an answer, as `say` has them.
-const SHOTS: usize = 0;
+const BOUNDARY: u32 = 4294967295;
 
-const WIDTH: usize = 1;
-
-const WORDS: usize = 2;
-
-const M_WORDS: usize = 3;
-
-const CODE: usize = 4;
-
-const SHOT: usize = 5;
-
-const AT: usize = 6;
-
-const COLON: usize = 7;
-
-const PASS: usize = 8;
-
-const DIFFERS: usize = 9;
-
-const ROW: usize = 10;
-
-const SPACE: usize = 11;
-
-const LINE_FEED: usize = 12;
-
-// The first place of a byte from a place on, or the length.
-fn find(text: &[u8], from: usize, x: u8) -> usize
-    requires { from ≤ length text.now }
-    ensures { (from ≤ result) × (result ≤ length text.now) }
-{
-    let mut i = from;
-    while i < text.len() {
-        if text[i] == x {
-            return i;
-        }
-        i += 1;
-    }
-    i
-}
-
-// The place after the next bar, or the length.
-fn next_field(text: &[u8], from: usize) -> usize
-    requires { from ≤ length text.now }
-    ensures { result ≤ length text.now }
-{
-    let at = find(text, from, b'|');
-    if at < text.len() {
-        return at + 1;
-    }
-    at
-}
-
-// Where field f begins.
-fn field_at(text: &[u8], f: usize) -> usize
-    ensures { result ≤ length text.now }
-{
-    let mut at = 0;
-    let mut k = 0;
-    while k < f {
-        k += 1;
-        at = next_field(text, at);
-    }
-    at
-}
-
-fn print_field(out: &impl Print, text: &[u8], f: usize) -> io::Result<()> {
-    let from = field_at(text, f);
-    let to = find(text, from, b'|');
-    out.write_all(&text[from..to])
-}
-
-fn say(out: &impl Print, word: usize) -> io::Result<()> {
-    print_field(
-        out,
-        b", shots |, width |, words |: m_words |: code |, shot | at |: |: pass|: differs at |, row | |\n",
-        word,
-    )
-}
-
-fn say_number(out: &impl Print, word: usize, n: usize) -> io::Result<()> {
-    say(out, word)?;
-    out.print(n)
+// Field f of a line, empty where there is none.
+fn field(line: &[u8], f: usize) -> &[u8] {
+    line.split(|b| *b == b'|').nth(f).unwrap_or(&[])
 }
 
 // The entry that a byte belongs to: a byte below the digits begins the next, up to the last.
@@ -111,117 +31,69 @@ fn entry_of(n: usize, b: u8, last: usize) -> usize
     requires { n ≤ last }
     ensures { result ≤ last }
 {
-    if b'0' <= b {
-        return n;
-    }
-    if n < last {
-        return n + 1;
-    }
-    n
+    if b < b'0' && n < last { n + 1 } else { n }
 }
 
 // A number with a digit more; 0 for a byte below the digits, and for a number with too many.
 fn longer(n: u64, b: u8) -> u64 {
-    if b < b'0' {
-        return 0;
+    match n.checked_mul(10) {
+        Some(tens) if b'0' <= b => tens.wrapping_add((b % 16) as u64),
+        _ => 0,
     }
-    if 1844674407370955161 < n {
-        return 0;
-    }
-    std::num::wrapping_add_u64(10 * n, (b % 16) as u64)
 }
 
 fn low(n: u64) -> u32 {
     (n % 4294967296) as u32
 }
 
-fn no_numbers() -> [u64; 256]
-    ensures { 256 ≡ length result }
-{
-    [0; 256]
-}
-
-// The numbers of field f.
-fn numbers(line: &[u8], f: usize) -> [u64; 256]
-    ensures { 256 ≡ length result }
-{
-    let mut out = no_numbers();
-    let mut x = 0;
-    let mut n = 0;
-    let mut i = field_at(line, f);
-    while i < line.len() {
-        let b = line[i];
-        i += 1;
-        if b == b'|' {
-            return out;
-        }
-        n = entry_of(n, b, 255);
-        x = longer(x, b);
-        out[n] = x;
-    }
-    out
-}
-
-fn no_ends() -> [u32; 16384]
-    ensures { 16384 ≡ length result }
-{
-    [0; 16384]
-}
-
-fn boundary_ends() -> [u32; 16384]
-    ensures { 16384 ≡ length result }
-{
-    [4294967295; 16384]
-}
-
-// The numbers of field f, of detectors or of edges, over those of a table.
-fn ends(line: &[u8], f: usize, table: [u32; 16384]) -> [u32; 16384]
-    requires { 16384 ≡ length table }
-    ensures { 16384 ≡ length result }
+// The numbers of field f, by what an entry holds of each, over those of a table.
+fn entries<T: Copy, Held: Fn(u64) -> T, const N: usize>(
+    line: &[u8],
+    f: usize,
+    table: [T; N],
+    held: Held,
+) -> [T; N]
+    requires { (0 < N) × Held.IsAlwaysCallable held }
 {
     let mut out = table;
     let mut x = 0;
     let mut n = 0;
-    let mut i = field_at(line, f);
-    while i < line.len() {
-        let b = line[i];
-        i += 1;
-        if b == b'|' {
-            return out;
-        }
-        n = entry_of(n, b, 16383);
-        x = longer(x, b);
-        out[n] = low(x);
+    for b in field(line, f) {
+        n = entry_of(n, *b, N - 1);
+        x = longer(x, *b);
+        out[n] = held(x);
     }
     out
 }
 
+// The numbers of field f.
+fn numbers(line: &[u8], f: usize) -> [u64; 256] {
+    entries(line, f, [0; 256], |n| n)
+}
+
+// Those of detectors or of edges, over those of a table.
+fn ends(line: &[u8], f: usize, table: [u32; 16384]) -> [u32; 16384] {
+    entries(line, f, table, low)
+}
+
 // Number j of field f.
 fn value(line: &[u8], f: usize, j: usize) -> usize {
-    let a = numbers(line, f);
-    if j < 256 {
-        return a[j] as usize;
+    match numbers(line, f).get(j) {
+        Some(n) => *n as usize,
+        None => 0,
     }
-    0
 }
 
 // A length, or the most that it may be.
 fn slice_length(line: &[u8], f: usize, j: usize, most: usize) -> usize
     ensures { result ≤ most }
 {
-    let n = value(line, f, j);
-    if most < n {
-        return most;
-    }
-    n
+    value(line, f, j).min(most)
 }
 
 fn quotient(sign: usize, a: u32, b: u32) -> f64 {
     let q = (a as f64) / (b as f64);
-    if sign == 1 {
-        return -q;
-    }
-    q
+    if sign == 1 { -q } else { q }
 }
 
 // Float j of field f.
@@ -235,36 +107,28 @@ fn float(line: &[u8], f: usize, j: usize) -> f64 {
     quotient(sign, low(a as u64), low(b as u64))
 }
 
-fn ones() -> [f64; 16384]
-    ensures { 16384 ≡ length result }
-{
-    [1.0; 16384]
-}
-
 // The two weights of field f, and ones after them.
-fn weights(line: &[u8], f: usize) -> [f64; 16384]
-    ensures { 16384 ≡ length result }
-{
-    let mut out = ones();
+fn weights(line: &[u8], f: usize) -> [f64; 16384] {
+    let mut out = [1.0; 16384];
     out[0] = float(line, f, 0);
     out[1] = float(line, f, 1);
     out
 }
 
 // The code, and the edge or the shot where it names one.
-fn say_refusal(out: &impl Print, r: Refusal, before: usize) -> io::Result<()> {
-    let code = codes::code(r);
-    say_number(out, CODE, code as usize)?;
-    match code {
-        4 | 5 | 9 => say_number(out, before, codes::first_value(r)),
+fn say_refusal(out: &impl Print, r: Refusal, named: &str) -> io::Result<()> {
+    print!(out; ": code {}", r.code())?;
+    match r {
+        Refusal::Probability { at } | Refusal::Index { at } | Refusal::Padding { shot: at } =>
+            print!(out; "{named} {at}"),
         _ => Ok(()),
     }
 }
 
-fn say_packed(out: &impl Print, p: Packed) -> io::Result<()> {
+fn say_packed(out: &impl Print, p: Result<usize, Refusal>) -> io::Result<()> {
     match p {
-        Packed::Rows { m_words } => say_number(out, M_WORDS, m_words),
-        Packed::Refused(r) => say_refusal(out, r, SHOT),
+        Ok(m_words) => print!(out; ": m_words {m_words}"),
+        Err(r) => say_refusal(out, r, ", shot"),
     }
 }
 
@@ -273,17 +137,15 @@ fn run_packed(out: &impl Print, line: &[u8]) -> io::Result<()> {
     let shots = value(line, 2, 0);
     let width = value(line, 2, 1);
     let n = slice_length(line, 2, 2, 256);
-    say_number(out, SHOTS, shots)?;
-    say_number(out, WIDTH, width)?;
-    say_number(out, WORDS, n)?;
+    print!(out; ", shots {shots}, width {width}, words {n}")?;
     say_packed(out, packed::try_from_shot_major(&data[0..n], shots, width))
 }
 
 // The code, and 0 where the model passes.
 fn say_checked(out: &impl Print, c: Checked) -> io::Result<()> {
     match c {
-        Checked::Accepted => say_number(out, COLON, 0),
-        Checked::Refused(r) => say_number(out, COLON, codes::code(r) as usize),
+        Ok(()) => print!(out; ": 0"),
+        Err(r) => print!(out; ": {}", r.code()),
     }
 }
 
@@ -317,7 +179,7 @@ fn small(line: &[u8], j: usize) -> u8 {
 }
 
 fn run_dem(out: &impl Print, line: &[u8]) -> io::Result<()> {
-    let entries = ends(line, 4, no_ends());
+    let entries = ends(line, 4, [0; 16384]);
     let n = slice_length(line, 2, 4, 16384);
     let checked = check(
         value(line, 2, 0),
@@ -330,18 +192,12 @@ fn run_dem(out: &impl Print, line: &[u8]) -> io::Result<()> {
     say_checked(out, checked)
 }
 
-fn say_marking(out: &impl Print, a: Marking) -> io::Result<()> {
+fn say_marking(out: &impl Print, a: Result<Marking, Refusal>) -> io::Result<()> {
     match a {
-        Marking::Pass => say(out, PASS),
-        Marking::Differs { detector } => say_number(out, DIFFERS, detector as usize),
-        Marking::Refused(r) => say_refusal(out, r, AT),
+        Ok(Marking::Pass) => print!(out; ": pass"),
+        Ok(Marking::Differs { detector }) => print!(out; ": differs at {detector}"),
+        Err(r) => say_refusal(out, r, " at"),
     }
-}
-
-fn say_row(out: &impl Print, row: &[u64; 3]) -> io::Result<()> {
-    say_number(out, ROW, row[0] as usize)?;
-    say_number(out, SPACE, row[1] as usize)?;
-    say_number(out, SPACE, row[2] as usize)
 }
 
 // The first so many words of the row and of the scratch are lent. Long for its parameters, one a line.
@@ -382,7 +238,7 @@ fn mark(
         &mut wrong[0..w],
     );
     say_marking(out, marking)?;
-    say_row(out, &row)
+    print!(out; ", row {} {} {}", row[0], row[1], row[2])
 }
 
 // The counts, the width, and the lengths of the row and of the scratch. Long for its parameters, one a line.
@@ -424,7 +280,7 @@ fn run_shot(
 ) -> io::Result<()> {
     let edge_obs = numbers(line, 7);
     let shot = numbers(line, 8);
-    let list = ends(line, 9, no_ends());
+    let list = ends(line, 9, [0; 16384]);
     let o = slice_length(line, 3, 3, 256);
     let s = slice_length(line, 3, 4, 256);
     let n = slice_length(line, 3, 5, 16384);
@@ -443,8 +299,8 @@ fn run_shot(
 // The edges.
 fn run_marker(out: &impl Print, line: &[u8]) -> io::Result<()> {
     let edge_weight = weights(line, 4);
-    let edge_u = ends(line, 5, no_ends());
-    let edge_v = ends(line, 6, boundary_ends());
+    let edge_u = ends(line, 5, [0; 16384]);
+    let edge_v = ends(line, 6, [BOUNDARY; 16384]);
     let u = slice_length(line, 3, 0, 16384);
     let v = slice_length(line, 3, 1, 16384);
     let w = slice_length(line, 3, 2, 16384);
@@ -452,38 +308,25 @@ fn run_marker(out: &impl Print, line: &[u8]) -> io::Result<()> {
 }
 
 fn run_case(out: &impl Print, line: &[u8]) -> io::Result<()> {
-    if line.len() == 0 {
+    let Some(kind) = line.first() else {
         return Ok(());
-    }
-    let kind = line[0];
-    print_field(out, line, 1)?;
-    match kind {
+    };
+    out.write_all(field(line, 1))?;
+    match *kind {
         b'p' => run_packed(out, line)?,
         b'd' => run_dem(out, line)?,
         b'm' => run_marker(out, line)?,
         _ => {}
     }
-    say(out, LINE_FEED)
+    println!(out)
 }
 
 // Line after line.
 fn run(out: &impl Print, text: &[u8]) -> io::Result<()> {
-    let mut at = 0;
-    while at < text.len() {
-        let end = find(text, at, b'\n');
-        run_case(out, &text[at..end])?;
-        if end == text.len() {
-            return Ok(());
-        }
-        at = end + 1;
+    for line in text.split(|b| *b == b'\n') {
+        run_case(out, line)?;
     }
     Ok(())
-}
-
-fn no_text() -> [u8; 65536]
-    ensures { 65536 ≡ length result }
-{
-    [0; 65536]
 }
 
 // Reads to the end of the input, or until the text is full; how many bytes there are.
@@ -502,7 +345,7 @@ fn read_full(from: &mut impl Read, text: &mut [u8]) -> io::Result<usize>
 }
 
 fn main(rt: HostRuntime) -> io::Result<()> {
-    let mut text = no_text();
+    let mut text = [0; 65536];
     let n = read_full(&mut rt.stdin(), &mut text)?;
     run(&rt, &text[0..n])
 }

@@ -1,4 +1,6 @@
 -- A call of the marker: what an accepted one asks of its passes, and what each answer leaves.
+use Rattle.codes.specs.Order.{Checked}
+use Rattle.std.specs.Prelude.{Result, Ok, Err}
 use Prim.Native.Nat.{ℕ, ◌-◌, ◌*◌, ◌≤◌, ◌<◌}
 use native.Mathlib.Omega.{arith}
 use native.Mathlib.Nat.{mul-le-mul_right, suc-mul, zero-mul}
@@ -6,16 +8,14 @@ use mathlib.Core.Path.{◌≡◌, refl, sym, ap, ◌∙◌}
 use mathlib.Core.List.{List, ◌++◌}
 use mathlib.Core.Bool.{Bool, true, ◌&&◌}
 use lib.Dec.{leb}
-use lib.ListN.{length, take, drop}
+use lib.ListN.{length, length-take, take, drop}
 use lib.Seq.{take_all}
 use borrow.Author.Tests.{leb-true}
-use borrow.Rule.Slice.PartMut.{mid_of, put_mid, mid_len}
+use borrow.Rule.Slice.PartMut.{put_mid}
 use Rattle.lists.specs.Lists.{member}
 use Rattle.lists.proofs.Truth.{and_left, and_right}
 use Rattle.bits.specs.Rows.{words}
 use Rattle.bits.proofs.Booleans.{bits_length}
-use Rattle.codes.specs.declared.Checked.{Checked}
-use Rattle.codes.specs.declared.Checked.TheVariants as checked
 use Rattle.codes.specs.declared.Refusal.{Refusal}
 use Rattle.steps.specs.Graph.{Graph}
 use Rattle.steps.specs.Rows.{row_of}
@@ -30,23 +30,23 @@ use Rattle.lent_graph.specs.Call.{Lent, graph_in, check_call}
 use Rattle.lent_graph.specs.Accepts.{Accepts}
 use Rattle.lent_graph.proofs.Accepts.{call_accepted}
 use Rattle.marking.specs.declared.Marking.{Marking}
-use Rattle.marking.specs.declared.Marking.TheVariants as marking
+use Rattle.marking.specs.declared.Marking.TheVariants.{Pass}
 use Rattle.marking.specs.Passes.{ends_graph, xor_rows, Ready, InTable}
 use Rattle.marking.specs.Answer.{sheet_of, marking_of}
 use Rattle.marking.proofs.Xors.{length_xors, xors_row}
 use Rattle.marker.specs.Answer.{marker_long, check_mark, mark_in, call_row, answer_of, row_after, Marks}
 use Rattle.marker.proofs.Verdicts.{same_marking, on_pass, off_pass}
 
--- the first words of a slice, as many as the code lends
-pub part_long : (k n : ℕ) (slice : List ℕ) → k ≡ n → n ≤ length slice → length (mid_of 0 (k - 0) slice) ≡ n
-part_long k n slice p h = mid_len 0 k slice (omega arith) ∙ omega arith
-
 -- the answer on the sheet
 on_sheet : (c : Checked) (m : Marked) → sheet_of (answer_of c m) ≡ call_row c m
-on_sheet checked.Accepted (steps.pass row) = refl
-on_sheet checked.Accepted (steps.differs d) = refl
-on_sheet checked.Accepted steps.unfit = refl
-on_sheet (checked.Refused r) m = refl
+on_sheet (Ok tt) (steps.pass row) = refl
+on_sheet (Ok tt) (steps.differs d) = refl
+on_sheet (Ok tt) steps.unfit = refl
+on_sheet (Err r) m = refl
+
+-- a call that the check accepts
+pub record Accepted (l : Lent) (row marks wrong shot : List ℕ) (width : ℕ) : Type 0 where
+  pub ok : check_mark l row marks wrong shot width ≡ Ok tt
 
 module _ (l : Lent) (row marks wrong shot : List ℕ) (width : ℕ) where
   abbrev d : ℕ
@@ -55,22 +55,16 @@ module _ (l : Lent) (row marks wrong shot : List ℕ) (width : ℕ) where
   abbrev own : Bool
   own = marker_long d l.observables l.edges (length row) (length marks) (length wrong)
 
-  abbrev check : Checked
-  check = check_mark l row marks wrong shot width
+  -- the check was made with a test of the call's own slices
+  pub accepted_by : (b : Bool) → b ≡ own → Ok tt ≡ check_call l b shot 1 width → Accepted l row marks wrong shot width
+  accepted_by b p q = record { ok = ap (λ (t : Bool). check_call l t shot 1 width) (sym p) ∙ sym q }
 
-  -- the check, made with a test of the call's own slices
-  pub checked_by : (b : Bool) (c : Checked) → b ≡ own → c ≡ check_call l b shot 1 width → c ≡ check
-  checked_by b c p q = q ∙ ap (λ (t : Bool). check_call l t shot 1 width) p
+  module _ (a : Accepted l row marks wrong shot width) where
+    abbrev check : Checked
+    check = check_mark l row marks wrong shot width
 
-  pub refused : (r : Refusal) (list : List ℕ) → checked.Refused r ≡ check
-      → (marking.Refused r ≡ answer_of check (mark_in l shot list)) × (row ≡ row_after check row (mark_in l shot list))
-  refused r list h = rw (sym h) (refl, refl)
-
-  -- ---- an accepted call
-
-  module _ (ok : check ≡ checked.Accepted) where
     accepts : Accepts l own shot 1 width
-    accepts = call_accepted l own shot 1 width ok
+    accepts = call_accepted l own shot 1 width a.ok
 
     -- room in the row, the marks and the wrong detectors
     pub rooms : (words l.observables ≤ length row) × (words l.edges ≤ length marks) × (words d ≤ length wrong)
@@ -84,7 +78,7 @@ module _ (l : Lent) (row marks wrong shot : List ℕ) (width : ℕ) where
         (leb-true _ _ (and_left a (b && c) all), leb-true _ _ (and_left b c rest), leb-true _ _ (and_right b c rest))
 
     -- demand 3
-    pub found_here : Found by_steps (graph_in l) (lit_of d shot)
+    found_here : Found by_steps (graph_in l) (lit_of d shot)
     unfolding graph_of
     found_here = found (graph_in l) accepts.graph (lit_of d shot) (bits_length d shot)
 
@@ -96,7 +90,7 @@ module _ (l : Lent) (row marks wrong shot : List ℕ) (width : ℕ) where
     unfolding graph_of
     same = record { detectors = refl; edge_u = refl; edge_v = refl }
 
-    pub ready : (m n : List ℕ) → length m ≡ words l.edges → length n ≡ words d → Ready d l.edges l.u l.v shot m n
+    pub ready : (m n : ℕ) → m ≡ words l.edges → n ≡ words d → Ready d l.edges l.u l.v shot (take (m - 0) marks) (take (n - 0) wrong)
     ready m n p q =
         let long : length shot ≡ words d = let k = accepts.rows_long in omega arith in
         let whole : take (words d) (drop (0 * words d) shot) ≡ shot = rw (zero-mul (words d)) (take_all (words d) shot (omega arith)) in
@@ -107,47 +101,50 @@ module _ (l : Lent) (row marks wrong shot : List ℕ) (width : ℕ) where
           ends = same_ends_lem same accepts.ends;
           shot_long = long;
           shot_clear = rw whole at (accepts.row_clear 0 (omega arith));
-          marks_long = p;
-          wrong_long = q;
+          marks_long = omega (arith, length-take (m - 0) marks, rooms.1);
+          wrong_long = omega (arith, length-take (n - 0) wrong, rooms.2);
         }
 
     -- ---- by the judge's answer
 
-    module _ (list : List ℕ) (b : Marking) (judged : b ≡ marking_of (mark bare (lit_of d shot) list)) where
-      mine : b ≡ marking_of (mark_in l shot list)
-      mine = judged ∙ sym (same_marking same (lit_of d shot) list)
+    module _ (list : List ℕ) where
+      abbrev marked : Marked
+      marked = mark_in l shot list
 
-      pub answers : b ≡ answer_of check (mark_in l shot list)
-      answers = rw ok mine
+      call : {r : Result Marking Refusal} {left : List ℕ} → r ≡ answer_of check marked → left ≡ row_after check row marked → Marks l shot width list row marks wrong r left
+      call p q = record { sheet = ap sheet_of p ∙ on_sheet check marked; answers = p; rows = q; found = λ h. found_here }
 
-      pub untouched : (b ≡ marking.Pass → ⊥) → row ≡ row_after check row (mark_in l shot list)
-      untouched other = rw ok (off_pass row (mark_in l shot list) (λ h. other (mine ∙ h)))
+      module _ (r : Result Marking Refusal) (judged : r ≡ marking_of (mark bare (lit_of d shot) list)) where
+        mine : r ≡ marking_of marked
+        mine = judged ∙ sym (same_marking same (lit_of d shot) list)
 
-      module _ (passes : b ≡ marking.Pass) where
-        pass : (fit (graph_in l) list ≡ true) × (mark_in l shot list ≡ steps.pass (row_of (graph_in l) list))
-        pass = on_pass (graph_in l) (lit_of d shot) list (sym mine ∙ passes)
+        -- Differs and a refusal leave the row
+        pub untouched : (r ≡ Ok Pass → ⊥) → Marks l shot width list row marks wrong r row
+        untouched other = call (rw a.ok mine) (rw a.ok (off_pass row marked (λ h. other (mine ∙ h))))
 
-        -- each edge is known
-        known : (e : ℕ) → member e list ≡ true → e < l.edges
-        known e m = rw accepts.counted at (fit_known (graph_in l) list pass.0 e m)
+        module _ (passes : r ≡ Ok Pass) where
+          pass : (fit (graph_in l) list ≡ true) × (marked ≡ steps.pass (row_of (graph_in l) list))
+          pass = on_pass (graph_in l) (lit_of d shot) list (sym mine ∙ passes)
 
-        -- so the tables have its row
-        pub in_table : (w : ℕ) → w ≡ words l.observables → InTable w l.obs list
-        in_table w p e m =
-            let long = accepts.obs_long in
-            let o = words l.observables in
-            rw p (omega (arith, mul-le-mul_right o (known e m), suc-mul e o))
+          -- each edge is known
+          known : (e : ℕ) → member e list ≡ true → e < l.edges
+          known e m = rw accepts.counted at (fit_known (graph_in l) list pass.0 e m)
 
-        -- the XOR of their rows in the first words of the row, as the code writes it
-        pub written : (w k : ℕ) (new : List ℕ) → w ≡ words l.observables → k ≡ words l.observables → new ≡ xor_rows k l.obs list
-            → put_mid 0 (w - 0) row new ≡ row_after check row (mark_in l shot list)
-        unfolding graph_of row_marked
-        written w k new p q h =
-            let same_row : new ≡ row_of (graph_in l) list = h ∙ rw q (xors_row (graph_in l) l.obs list (λ e m. (accepts.edge e (known e m)).row)) in
-            let wide : w - 0 ≡ length (row_of (graph_in l) list) = omega (arith, ap length same_row, ap length h, length_xors k l.obs list) in
-            rw (ok, pass.1, same_row) (ap (λ (n : ℕ). row_of (graph_in l) list ++ drop n row) wide)
+          module _ (w : ℕ) (p : w ≡ words l.observables) where
+            -- the first words of the row
+            long : length (take (w - 0) row) ≡ words l.observables
+            long = omega (arith, length-take (w - 0) row, rooms.0)
 
-  -- ---- the call
+            -- so the tables have its row
+            pub in_table : InTable (length (take (w - 0) row)) l.obs list
+            in_table e m =
+                let o = words l.observables in
+                rw long (omega (arith, accepts.obs_long, mul-le-mul_right o (known e m), suc-mul e o))
 
-  pub marked : (list : List ℕ) {r : Marking} {left : List ℕ} → r ≡ answer_of check (mark_in l shot list) → left ≡ row_after check row (mark_in l shot list) → Marks l shot width list row marks wrong r left
-  marked list p q = record { sheet = ap sheet_of p ∙ on_sheet check (mark_in l shot list); answers = p; rows = q; found = found_here }
+            -- the XOR of their rows, as the code writes it
+            pub written : (new : List ℕ) → new ≡ xor_rows (length (take (w - 0) row)) l.obs list → Marks l shot width list row marks wrong r (put_mid 0 (w - 0) row new)
+            unfolding graph_of row_marked
+            written new h =
+                let same_row : new ≡ row_of (graph_in l) list = h ∙ rw long (xors_row (graph_in l) l.obs list (λ e m. (accepts.edge e (known e m)).row)) in
+                let wide : w - 0 ≡ length (row_of (graph_in l) list) = omega (arith, ap length same_row, ap length h, length_xors (length (take (w - 0) row)) l.obs list, long) in
+                call (rw a.ok mine) (rw (a.ok, pass.1, same_row) (ap (λ (n : ℕ). row_of (graph_in l) list ++ drop n row) wide))

@@ -5,10 +5,11 @@ ghost use Rattle.std.specs.Prelude.{◌≡◌, length};
 ghost use Rattle.lent_graph.specs.Call.{lent_of};
 ghost use Rattle.marker.specs.Answer.{marker_long, Marks};
 
-use codes::Checked;
+use codes::Refusal;
 use marking::Marking;
 
 // 2: the row, and the scratch for the edges met and the wrong detectors, are as long as the counts need.
+#[tactic(auto, unfolding(crate::specs::Answer::marker_long))]
 fn long(
     detectors: usize,
     observables: usize,
@@ -19,13 +20,9 @@ fn long(
 ) -> bool
     ensures { result ≡ marker_long detectors observables edges (length row.now) (length marks.now) (length wrong.now) }
 {
-    if row.len() < bits::words(observables) {
-        return false;
-    }
-    if marks.len() < bits::words(edges) {
-        return false;
-    }
-    bits::words(detectors) <= wrong.len()
+    bits::words(observables) <= row.len()
+        && bits::words(edges) <= marks.len()
+        && bits::words(detectors) <= wrong.len()
 }
 
 // 1, 2, the graph, 8, 9, 10, then 13, Pass or Differs. Long for its parameters, one a line.
@@ -43,11 +40,11 @@ pub fn mark(
     row: &mut [u64],
     marks: &mut [u64],
     wrong: &mut [u64],
-) -> Marking
+) -> Result<Marking, Refusal>
     ensures { Marks (lent_of detectors observables edges edge_u.now edge_v.now edge_weight.now edge_obs.now) shot.now width list.now row.old marks.old wrong.old result row.new }
 {
     let enough = long(detectors, observables, edges, row, marks, wrong);
-    let checked = lent_graph::check_call(
+    lent_graph::check_call(
         detectors,
         observables,
         edges,
@@ -59,10 +56,7 @@ pub fn mark(
         shot,
         1,
         width,
-    );
-    if let Checked::Refused(r) = checked {
-        return Marking::Refused(r);
-    }
+    )?;
     let m = bits::words(edges);
     let n = bits::words(detectors);
     let judged = marking::judge(
@@ -74,14 +68,10 @@ pub fn mark(
         list,
         &mut marks[0..m],
         &mut wrong[0..n],
-    );
-    match judged {
-        Marking::Pass => {
-            let w = bits::words(observables);
-            marking::write_row(edge_obs, list, &mut row[0..w]);
-            Marking::Pass
-        }
-        Marking::Differs { detector } => Marking::Differs { detector },
-        Marking::Refused(r) => Marking::Refused(r),
+    )?;
+    if let Marking::Pass = judged {
+        let w = bits::words(observables);
+        marking::write_row(edge_obs, list, &mut row[0..w]);
     }
+    Ok(judged)
 }

@@ -1,4 +1,5 @@
 -- The list against the shot, by the wrong row; and the same of a graph's ends alone.
+use Rattle.std.specs.Prelude.{Option, None, Some, Result, Ok, Err}
 use Prim.Native.Nat.{ℕ, zero, suc, ◌+◌, ◌*◌, ◌/◌, ◌≤◌, ◌<◌}
 use native.Mathlib.Omega.{arith}
 use mathlib.Core.Path.{◌≡◌, refl, sym, ap, ◌∙◌}
@@ -16,11 +17,10 @@ use Rattle.steps.specs.Marker.{fit, first_wrong, verdict, mark}
 use Rattle.steps.specs.Call.{graph_of, lit_of}
 use Rattle.found.proofs.Fits.{fit_known}
 use Rattle.found.proofs.Judged.{refuses}
+use Rattle.codes.specs.declared.Refusal.{Refusal}
 use Rattle.codes.specs.declared.Refusal.TheVariants as refusal
-use Rattle.marking.specs.declared.Bit.{Bit}
-use Rattle.marking.specs.declared.Bit.TheVariants.{At, Nothing}
 use Rattle.marking.specs.declared.Marking.{Marking}
-use Rattle.marking.specs.declared.Marking.TheVariants.{Pass, Differs, Refused}
+use Rattle.marking.specs.declared.Marking.TheVariants.{Pass, Differs}
 use Rattle.marking.specs.Passes.{ends_graph, wrong_after, lowest_of, Unmet, Ready}
 use Rattle.marking.specs.Answer.{marking_of}
 use Rattle.marking.proofs.Flips.{bit_wrong, clear_wrong, length_wrong}
@@ -46,9 +46,9 @@ first_same g h p q lit es (d ∷ ds) = rw (first_same g h p q lit es ds, p, q)
 
 -- ---- the answer, by the lowest wrong detector
 
-abbrev pub marking_by : Bit → Marking
-marking_by (At d) = Differs d
-marking_by Nothing = Pass
+abbrev pub marking_by : Option ℕ → Result Marking Refusal
+marking_by (Some d) = Ok (Differs d)
+marking_by None = Ok Pass
 
 module _ (g : Graph) (lit : List Bool) (es : List ℕ) where
   first_set : (p : ℕ → Bool) (n a : ℕ) → ((d : ℕ) → a ≤ d → d < n + a → xor (get_or lit d false) (flipped g es d) ≡ p d)
@@ -79,7 +79,7 @@ module _ (g : Graph) (ok : Ends g) (shot es : List ℕ) (long : length shot ≡ 
 
 -- ---- the passes put together
 
-module _ (d n : ℕ) (u v shot list marks wrong : List ℕ) (r : Ready d n u v shot marks wrong) where
+module _ (d n : ℕ) (u v shot marks wrong : List ℕ) (r : Ready d n u v shot marks wrong) where
   abbrev full : Graph
   full = ends_graph d n u v
 
@@ -111,22 +111,23 @@ module _ (d n : ℕ) (u v shot list marks wrong : List ℕ) (r : Ready d n u v s
             };
       }
 
-  abbrev answer : Marking
-  answer = marking_of (mark full (lit_of d shot) list)
+  module _ (list : List ℕ) where
+    abbrev answer : Result Marking Refusal
+    answer = marking_of (mark full (lit_of d shot) list)
 
-  fits_too : fit full list ≡ fit bare list
-  unfolding graph_of
-  fits_too = fit_same full bare refl list
+    fits_too : fit full list ≡ fit bare list
+    unfolding graph_of
+    fits_too = fit_same full bare refl list
 
-  -- an unknown or repeated edge
-  pub unfit_list : fit bare list ≡ false → Refused refusal.Edge ≡ answer
-  unfit_list f = sym (ap marking_of (refuses full (lit_of d shot) list (fits_too ∙ f)))
+    -- an unknown or repeated edge
+    pub unfit_list : false ≡ fit bare list → Err refusal.Edge ≡ answer
+    unfit_list f = sym (ap marking_of (refuses full (lit_of d shot) list (fits_too ∙ sym f)))
 
-  -- else the lowest wrong detector
-  pub fit_list : fit bare list ≡ true → (before after : List ℕ) → before ≡ shot → after ≡ wrong_after bare before list
-      → (b : Bit) → b ≡ lowest_of (set_bits (64 * length after) after) → marking_by b ≡ answer
-  unfolding graph_of
-  fit_list t before after p q b e =
-      let same : after ≡ wrong_after full shot list = q ∙ ap (λ (row : List ℕ). wrong_after bare row list) p ∙ sym (wrong_same full bare refl refl shot list) in
-      ap marking_by (e ∙ ap (λ (row : List ℕ). lowest_of (set_bits (64 * length row) row)) same)
-      ∙ sym (by_wrong full r.ends shot list r.shot_long r.shot_clear (fits_too ∙ t))
+    -- else the lowest wrong detector
+    pub fit_list : {before after : List ℕ} {o : Option ℕ} → true ≡ fit bare list → before ≡ shot → after ≡ wrong_after bare before list
+        → o ≡ lowest_of (set_bits (64 * length after) after) → marking_by o ≡ answer
+    unfolding graph_of
+    fit_list {before} {after} {o} t p q e =
+        let same : after ≡ wrong_after full shot list = q ∙ ap (λ (row : List ℕ). wrong_after bare row list) p ∙ sym (wrong_same full bare refl refl shot list) in
+        ap marking_by (e ∙ ap (λ (row : List ℕ). lowest_of (set_bits (64 * length row) row)) same)
+        ∙ sym (by_wrong full r.ends shot list r.shot_long r.shot_clear (fits_too ∙ sym t))

@@ -1,4 +1,3 @@
-pub mod Words
 pub mod Flips
 pub mod Meeting
 pub mod LowestBit

@@ -1,4 +1,5 @@
 -- The lowest set bit of a row, word by word.
+use Rattle.std.specs.Prelude.{None, Some}
 use Prim.Native.Nat.{ℕ, ◌+◌, ◌*◌, ◌^◌, ◌≤◌, ◌<◌}
 use native.Mathlib.Omega.{arith}
 use mathlib.Core.Path.{◌≡◌, sym, ap, ◌∙◌}
@@ -10,7 +11,6 @@ use Rattle.bits.specs.Rows.{words, word_bits, set_bits, is_clear}
 use Rattle.bits.proofs.Lowest.{bits_lowest, bits_zero}
 use Rattle.bits.proofs.Listed.{rest_bits, rest_all, rest_turn, rest_end}
 use Rattle.bits.proofs.Rows.{clear_whole}
-use Rattle.marking.specs.declared.Bit.TheVariants.{At, Nothing}
 use Rattle.marking.specs.Passes.{lowest_of}
 
 whole_words : (n : ℕ) → n ≡ words (64 * n)
@@ -31,12 +31,12 @@ module _ (row : List ℕ) where
         let none : word_bits (i * 64) (get_or row i 0) ≡ [] = rw z (bits_zero (i * 64)) in
         ap lowest_of (sym (rest_turn row i h ∙ ap (λ (l : List ℕ). l ++ rest_bits row (i + 1)) none))
 
-    pub lowest_here : (w : ℕ) → i < length row → w ≡ get_or row i 0 → w < 2 ^ 64 → (w ≡ 0 → ⊥) → At (i * 64 + count_trailing_zeros 64 w) ≡ lowest_of (rest_bits row i)
+    pub lowest_here : (w : ℕ) → i < length row → w ≡ get_or row i 0 → w < 2 ^ 64 → (w ≡ 0 → ⊥) → Some (i * 64 + count_trailing_zeros 64 w) ≡ lowest_of (rest_bits row i)
     lowest_here w h e k f =
         let some = ap (word_bits (i * 64)) (sym e) ∙ bits_lowest (i * 64) w k f in
         sym (ap lowest_of (rest_turn row i h ∙ ap (λ (l : List ℕ). l ++ rest_bits row (i + 1)) some))
 
-    pub lowest_end : length row ≤ i → Nothing ≡ lowest_of (rest_bits row i)
+    pub lowest_end : length row ≤ i → None ≡ lowest_of (rest_bits row i)
     lowest_end h = ap lowest_of (sym (rest_end row i h))
 
 -- of a row with clear padding

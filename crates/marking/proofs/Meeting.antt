@@ -1,12 +1,11 @@
 -- The walk over a list, from its last edge back: what is met and flipped so far, and where it stops.
-use Prim.Native.Nat.{ℕ, zero, suc, ◌-◌, ◌≤◌, ◌<◌}
-use native.Mathlib.Omega.{arith}
-use mathlib.Core.Path.{◌≡◌, sym, ap, ◌∙◌}
-use mathlib.Core.List.{List, [], ◌∷◌}
+use Prim.Native.Nat.{ℕ, ◌≤◌, ◌<◌}
+use mathlib.Core.Path.{◌≡◌, refl, sym, ap, ◌∙◌}
+use mathlib.Core.List.{List, [], ◌∷◌, ◌++◌, append_assoc, append-nil}
 use mathlib.Core.Bool.{true, false, not, and-false}
 use lib.Dec.{ltb}
-use lib.ListN.{length, get_or, drop}
-use lib.Seq.{drop-cons, length-take-le}
+use lib.ListN.{length, get_or}
+use lib.Seq.{length-take-le}
 use borrow.Author.Tests.{le-ltb, lt-ltb}
 use Rattle.lists.specs.Lists.{member}
 use Rattle.bits.specs.Rows.{bit, set_bit}
@@ -16,7 +15,7 @@ use Rattle.steps.specs.Call.{graph_of}
 use Rattle.lent_graph.proofs.Accepts.{entry}
 use Rattle.found.proofs.Fits.{fit_known}
 use Rattle.marking.specs.Passes.{ends_graph, met_after, flip_ends, wrong_after, Unmet}
-use Rattle.marking.proofs.Flips.{length_met, bit_met, length_wrong}
+use Rattle.marking.proofs.Flips.{bit_met}
 
 -- ---- ends in the tables
 
@@ -35,68 +34,59 @@ module _ (d n : ℕ) (u v : List ℕ) where
 
 -- ---- from the last edge back
 
--- the list from a place on, split at that place
-pub from_here : (list : List ℕ) (left : ℕ) → 0 < left → left ≤ length list → drop (left - 1) list ≡ get_or list (left - 1) 0 ∷ drop left list
-from_here list left p h =
-    let e : suc (left - 1) ≡ left = omega arith in
-    drop-cons list (left - 1) 0 (omega arith) ∙ ap (λ (k : ℕ). get_or list (left - 1) 0 ∷ drop k list) e
-
 -- a list with an unfit end is unfit
-fit_drop : (g : Graph) (list : List ℕ) (i : ℕ) → fit g (drop i list) ≡ false → fit g list ≡ false
+fit_end : (g : Graph) (front end : List ℕ) → fit g end ≡ false → fit g (front ++ end) ≡ false
 unfolding fit
-fit_drop g list zero h = h
-fit_drop g [] (suc i) h = h
-fit_drop g (e ∷ list) (suc i) h = rw (fit_drop g list i h, and-false (not (member e list))) (and-false (ltb e (length g.edge_u)))
+fit_end g [] end h = h
+fit_end g (e ∷ front) end h = rw (fit_end g front end h, and-false (not (member e (front ++ end)))) (and-false (ltb e (length g.edge_u)))
 
 module _ (n : ℕ) (u v list marks₀ wrong₀ : List ℕ) where
   abbrev g : Graph
   g = ends_graph 0 n u v
 
-  -- of the edges from `left` on
-  pub record Meeting (marks wrong : List ℕ) (left : ℕ) : Type 0 where
-    pub within : left ≤ length list
-    pub fits : fit g (drop left list) ≡ true
-    pub met : marks ≡ met_after marks₀ (drop left list)
-    pub flips : wrong ≡ wrong_after g wrong₀ (drop left list)
-    pub marks_long : length marks ≡ length marks₀
-    pub wrong_long : length wrong ≡ length wrong₀
+  -- of the edges behind those that are left
+  pub record Meeting (marks wrong left : List ℕ) : Type 0 where
+    pub done : List ℕ
+    pub split : left ++ done ≡ list
+    pub fits : fit g done ≡ true
+    pub met : marks ≡ met_after marks₀ done
+    pub flips : wrong ≡ wrong_after g wrong₀ done
+
+  pub start : Meeting marks₀ wrong₀ list
+  unfolding fit met_after wrong_after
+  start = record { done = []; split = append-nil list; fits = refl; met = refl; flips = refl }
 
   module _ (r : Unmet n u v marks₀ wrong₀) where
     size : length g.edge_u ≡ n
     size = counted 0 n u v r.u_long
 
-    module _ (marks wrong : List ℕ) (left : ℕ) (m : Meeting marks wrong left) (more : 0 < left) where
-      abbrev e : ℕ
-      e = get_or list (left - 1) 0
+    module _ (marks wrong left rest : List ℕ) (e : ℕ) (m : Meeting marks wrong left) (last : left ≡ rest ++ (e ∷ [])) where
+      whole : rest ++ (e ∷ m.done) ≡ list
+      whole = sym (append_assoc rest (e ∷ []) m.done) ∙ ap (λ (l : List ℕ). l ++ m.done) (sym last) ∙ m.split
 
-      abbrev rest : List ℕ
-      rest = drop left list
+      unfit_end : fit g (e ∷ m.done) ≡ false → fit g list ≡ false
+      unfit_end h = ap (fit g) (sym whole) ∙ fit_end g rest (e ∷ m.done) h
 
-      marked : bit marks e ≡ member e rest
-      marked = ap (λ (row : List ℕ). bit row e) m.met ∙ bit_met marks₀ rest r.clear (λ c k. r.place c (rw size at (fit_known g rest m.fits c k))) e
+      marked : bit marks e ≡ member e m.done
+      marked = ap (λ (row : List ℕ). bit row e) m.met ∙ bit_met marks₀ m.done r.clear (λ c k. r.place c (rw size at (fit_known g m.done m.fits c k))) e
 
       -- an unknown edge
       pub unknown : n ≤ e → fit g list ≡ false
       unfolding fit
-      unknown h = fit_drop g list (left - 1) (rw (from_here list left more m.within, size, le-ltb e n h))
+      unknown h = unfit_end (rw (size, le-ltb e n h))
 
       -- an edge that was met
       pub repeated : bit marks e ≡ true → fit g list ≡ false
       unfolding fit
-      repeated t = fit_drop g list (left - 1) (rw (from_here list left more m.within, sym marked ∙ t) (and-false (ltb e (length g.edge_u))))
+      repeated t = unfit_end (rw (sym marked ∙ t) (and-false (ltb e (length g.edge_u))))
 
       -- a known edge that is new
-      pub turn : (marks' wrong' : List ℕ) → e < n → bit marks e ≡ false → marks' ≡ set_bit marks e → wrong' ≡ flip_ends wrong (get_or u e 0) (get_or v e 0) → Meeting marks' wrong' (left - 1)
+      pub turn : (marks' wrong' : List ℕ) → e < n → bit marks e ≡ false → marks' ≡ set_bit marks e → wrong' ≡ flip_ends wrong (get_or u e 0) (get_or v e 0) → Meeting marks' wrong' rest
       unfolding fit met_after wrong_after
-      turn marks' wrong' h f p q =
-          let split = from_here list left more m.within in
-          let met : marks' ≡ met_after marks₀ (drop (left - 1) list) = rw (split, p, m.met) in
-          let flips : wrong' ≡ wrong_after g wrong₀ (drop (left - 1) list) = rw (split, q, m.flips, near_end 0 n u v r.u_long e h, far_end 0 n u v r.v_long e h) in
-          record {
-            within = let k = m.within in omega arith;
-            fits = rw (split, size, lt-ltb e n h, sym marked ∙ f) m.fits;
-            met = met;
-            flips = flips;
-            marks_long = ap length met ∙ length_met marks₀ (drop (left - 1) list);
-            wrong_long = ap length flips ∙ length_wrong g wrong₀ (drop (left - 1) list);
-          }
+      turn marks' wrong' h f p q = record {
+        done = e ∷ m.done;
+        split = whole;
+        fits = rw (size, lt-ltb e n h, sym marked ∙ f) m.fits;
+        met = rw (p, m.met);
+        flips = rw (q, m.flips, near_end 0 n u v r.u_long e h, far_end 0 n u v r.v_long e h);
+      }

@@ -1,13 +1,11 @@
 -- What the passes of the marker leave in their scratch rows, and what they read off them.
-use Rattle.std.specs.Prelude.{ℕ, ◌+◌, ◌*◌, ◌/◌, ◌≤◌, ◌<◌, ◌≡◌, List, [], ◌∷◌, cond, true, false, eqb, length, get_or, replicate}
+use Rattle.std.specs.Prelude.{ℕ, ◌+◌, ◌*◌, ◌/◌, ◌≤◌, ◌<◌, ◌≡◌, List, [], ◌∷◌, cond, true, false, eqb, length, get_or, replicate, Option, Some, None}
 use Rattle.lists.specs.Lists.{member}
 use Rattle.bits.specs.Rows.{words, bit, is_clear, set_bit, flip_bit, xor_row}
 use Rattle.codes.specs.Limits.{max_detectors}
 use Rattle.packed.specs.Packed.{row_at}
 use Rattle.steps.specs.Graph.{Graph, Ends, boundary, inner, outer}
 use Rattle.steps.specs.Call.{graph_of}
-use Rattle.marking.specs.declared.Bit.{Bit}
-use Rattle.marking.specs.declared.Bit.TheVariants.{At, Nothing}
 
 -- a graph of ends alone: D detectors and the first n edges of the tables
 abbrev pub ends_graph : ℕ → ℕ → List ℕ → List ℕ → Graph
@@ -31,9 +29,9 @@ wrong_after g row [] = row
 wrong_after g row (e ∷ es) = flip_ends (wrong_after g row es) (inner g e) (outer g e)
 
 -- the first of the set bits, ascending
-abbrev pub lowest_of : List ℕ → Bit
-lowest_of [] = Nothing
-lowest_of (d ∷ ds) = At d
+abbrev pub lowest_of : List ℕ → Option ℕ
+lowest_of [] = None
+lowest_of (d ∷ ds) = Some d
 
 -- the XOR of rows of w words, of edges numbered by the list; of no edges it is zero
 unfoldable pub xor_rows : ℕ → List ℕ → List ℕ → List ℕ

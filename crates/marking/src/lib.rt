@@ -17,29 +17,10 @@ pub enum Marking {
     Pass,
     // the lowest wrong detector
     Differs { detector: u32 },
-    Refused(Refusal),
-}
-
-// The lowest set bit of a row, if any is set.
-#[derive(Clone, Copy)]
-enum Bit {
-    At(u32),
-    Nothing,
-}
-
-// The words of a row of the same length.
-fn copy(from: &[u64], to: &mut [u64])
-    requires { length from.now ≡ length to.old }
-    ensures { to.new ≡ from.now }
-{
-    let mut i = 0;
-    while i < to.len() {
-        to[i] = from[i];
-        i += 1;
-    }
 }
 
 // Flips the ends of an edge; the boundary is no detector.
+#[tactic(auto, unfolding(crate::specs::Passes::flip_ends, bits::specs::Rows::flip_bit))]
 fn flip_ends(wrong: &mut [u64], u: u32, v: u32)
     requires { (u / 64 < length wrong.old) × ((v ≡ boundary → ⊥) → v / 64 < length wrong.old) }
     ensures { wrong.new ≡ flip_ends wrong.old u v }
@@ -64,10 +45,8 @@ fn meet(
     ensures known { result ≡ fit (ends_graph 0 edges edge_u.now edge_v.now) list.now }
     ensures flips { result ≡ true → wrong.new ≡ wrong_after (ends_graph 0 edges edge_u.now edge_v.now) wrong.old list.now }
 {
-    let mut left = list.len();
-    while 0 < left {
-        left -= 1;
-        let e = list[left] as usize;
+    for e in list.iter().rev() {
+        let e = *e as usize;
         if edges <= e {
             return false;
         }
@@ -80,22 +59,19 @@ fn meet(
     true
 }
 
-// The lowest set bit, word by word.
-fn lowest(row: &[u64]) -> Bit
+// The lowest set bit of a row, word by word, if any is set.
+#[tactic(auto, using(crate::proofs::LowestBit::lowest_start, crate::proofs::LowestBit::lowest_zero, crate::proofs::LowestBit::lowest_here, crate::proofs::LowestBit::lowest_end))]
+fn lowest(row: &[u64]) -> Option<u32>
     requires { length row.now ≤ 64 }
     ensures { result ≡ lowest_of (set_bits (64 * length row.now) row.now) }
 {
-    let mut next = 0;
-    while next < row.len() {
-        let i = next;
-        next += 1;
-        let word = row[i];
-        if word != 0 {
+    for (i, word) in row.iter().enumerate() {
+        if *word != 0 {
             let base = (i * 64) as u32;
-            return Bit::At(base + u64::trailing_zeros(word));
+            return Some(base + word.trailing_zeros());
         }
     }
-    Bit::Nothing
+    None
 }
 
 // The list against the shot.
@@ -108,33 +84,31 @@ pub fn judge(
     list: &[u32],
     marks: &mut [u64],
     wrong: &mut [u64],
-) -> Marking
+) -> Result<Marking, Refusal>
     requires { Ready detectors edges edge_u.now edge_v.now shot.now marks.old wrong.old }
     ensures { result ≡ marking_of (mark (ends_graph detectors edges edge_u.now edge_v.now) (lit_of detectors shot.now) list.now) }
 {
-    tables::fill_u64(marks, 0);
-    copy(shot, wrong);
+    marks.fill(0);
+    wrong.copy_from_slice(shot);
     if !meet(edges, edge_u, edge_v, list, marks, wrong) {
-        return Marking::Refused(Refusal::Edge);
+        return Err(Refusal::Edge);
     }
-    let found = lowest(wrong);
-    match found {
-        Bit::At(detector) => Marking::Differs { detector },
-        Bit::Nothing => Marking::Pass,
-    }
+    Ok(match lowest(wrong) {
+        Some(detector) => Marking::Differs { detector },
+        None => Marking::Pass,
+    })
 }
 
 // The XOR of the listed edges' rows, from the last one back.
+#[tactic(auto, using(crate::proofs::Xors::start, crate::proofs::Xors::turn))]
 pub fn write_row(edge_obs: &[u64], list: &[u32], row: &mut [u64])
     requires { InTable (length row.old) edge_obs.now list.now }
     ensures { row.new ≡ xor_rows (length row.old) edge_obs.now list.now }
 {
-    tables::fill_u64(row, 0);
+    row.fill(0);
     let w = row.len();
-    let mut left = list.len();
-    while 0 < left {
-        left -= 1;
-        let e = list[left] as usize;
+    for e in list.iter().rev() {
+        let e = *e as usize;
         let from = e * w;
         let to = from + w;
         bits::xor_into(row, &edge_obs[from..to]);

@@ -10,6 +10,7 @@ use codes::{Checked, Refusal};
 use dem::{Mechanism, Place};
 
 // Strictly ascending, below the bound, at most 16 entries.
+#[tactic(auto, unfolding(dem::specs::Model::list_fits), using(dem::proofs::Checks::turn_low, dem::proofs::Checks::turn_high, dem::proofs::Checks::turn_next, dem::proofs::Checks::turn_end))]
 pub fn check_list(list: &[u32], bound: usize) -> bool
     ensures { result ≡ list_fits bound list.now }
 {
@@ -17,22 +18,18 @@ pub fn check_list(list: &[u32], bound: usize) -> bool
         return false;
     }
     let mut low: usize = 0;
-    let mut i = 0;
-    while i < list.len() {
-        let x = list[i] as usize;
-        if x < low {
-            return false;
-        }
-        if bound <= x {
+    for x in list {
+        let x = *x as usize;
+        if x < low || bound <= x {
             return false;
         }
         low = x + 1;
-        i += 1;
     }
     true
 }
 
 // The lists of d detectors and o observables at an entry.
+#[tactic(auto, using(dem::proofs::Checks::symptom_parts))]
 fn symptom_fits(
     detectors: usize,
     observables: usize,
@@ -46,13 +43,11 @@ fn symptom_fits(
 {
     let middle = at + d;
     let end = middle + o;
-    if !check_list(&entries[at..middle], detectors) {
-        return false;
-    }
-    check_list(&entries[middle..end], observables)
+    check_list(&entries[at..middle], detectors) && check_list(&entries[middle..end], observables)
 }
 
 // The lists of n components from a place on.
+#[tactic(auto, using(dem::proofs::Checks::fit_turn, dem::proofs::Checks::first_inside, dem::proofs::Checks::others_inside))]
 fn components_fit(
     detectors: usize,
     observables: usize,
@@ -65,24 +60,21 @@ fn components_fit(
     requires { Within n place.component place.entry component_detectors.now component_observables.now entries.now }
     ensures { result ≡ symptoms_fit detectors observables (components_of n (drop place.component component_detectors.now) (drop place.component component_observables.now) (drop place.entry entries.now)) }
 {
-    let mut left = n;
-    let mut component = place.component;
+    let end = place.component + n;
     let mut entry = place.entry;
-    while 0 < left {
-        left -= 1;
+    for component in place.component..end {
         let d = component_detectors[component] as usize;
         let o = component_observables[component] as usize;
-        component += 1;
-        let at = entry;
-        entry = at + (d + o);
-        if !symptom_fits(detectors, observables, d, o, at, entries) {
+        if !symptom_fits(detectors, observables, d, o, entry, entries) {
             return false;
         }
+        entry += d + o;
     }
     true
 }
 
 // All lists of a mechanism, and the number of its components.
+#[tactic(auto, using(dem::proofs::Checks::lists_parts))]
 fn lists_fit(
     detectors: usize,
     observables: usize,
@@ -98,29 +90,25 @@ fn lists_fit(
     let d = head.detectors as usize;
     let o = head.observables as usize;
     let n = head.components as usize;
-    let at = place.entry;
-    if !symptom_fits(detectors, observables, d, o, at, entries) {
-        return false;
-    }
-    if codes::MAX_ENTRIES < n {
-        return false;
-    }
     let first = Place {
         component: place.component,
-        entry: at + (d + o),
+        entry: place.entry + (d + o),
     };
-    components_fit(
-        detectors,
-        observables,
-        n,
-        first,
-        component_detectors,
-        component_observables,
-        entries,
-    )
+    symptom_fits(detectors, observables, d, o, place.entry, entries)
+        && n <= codes::MAX_ENTRIES
+        && components_fit(
+            detectors,
+            observables,
+            n,
+            first,
+            component_detectors,
+            component_observables,
+            entries,
+        )
 }
 
 // In [0, 1); NaN is not.
+#[tactic(auto, unfolding(dem::specs::Model::probability_fits))]
 fn probability_fits(p: f64) -> bool
     ensures { result ≡ probability_fits p }
 {
@@ -128,6 +116,7 @@ fn probability_fits(p: f64) -> bool
 }
 
 // Mechanism i: its lists (5), then its probability (4).
+#[tactic(auto, using(dem::proofs::Checks::check_parts))]
 pub fn check_mechanism(
     detectors: usize,
     observables: usize,
@@ -141,7 +130,7 @@ pub fn check_mechanism(
     requires { Inside head place component_detectors.now component_observables.now entries.now }
     ensures { result ≡ check_mechanism detectors observables i (mechanism_at head place component_detectors.now component_observables.now entries.now) }
 {
-    let lists = lists_fit(
+    if !lists_fit(
         detectors,
         observables,
         head,
@@ -149,13 +138,11 @@ pub fn check_mechanism(
         component_detectors,
         component_observables,
         entries,
-    );
-    let chance = probability_fits(head.probability);
-    if !lists {
-        return Checked::Refused(Refusal::Index { at: i });
+    ) {
+        return Err(Refusal::Index { at: i });
     }
-    if !chance {
-        return Checked::Refused(Refusal::Probability { at: i });
+    if !probability_fits(head.probability) {
+        return Err(Refusal::Probability { at: i });
     }
-    Checked::Accepted
+    Ok(())
 }

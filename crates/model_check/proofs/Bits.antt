@@ -1,4 +1,5 @@
 -- The model check on columns that are alike.
+use Rattle.std.specs.Prelude.{Ok, Err}
 use Prim.Native.Nat.{ℕ, zero, suc, ◌+◌, ◌-◌, ◌<◌}
 use native.Mathlib.Numerals.{one-add}
 use native.Mathlib.Omega.{arith}
@@ -14,9 +15,7 @@ use lib.Ieee.Bits.{nan_bits_is}
 use borrow.Author.Tests.{ltb-true, ltb-false, lt-leb}
 use Rattle.lists.proofs.Truth.{case-of, clash}
 use Rattle.codes.specs.declared.Refusal.TheVariants.{Index, Probability}
-use Rattle.codes.specs.declared.Checked.{Checked}
-use Rattle.codes.specs.declared.Checked.TheVariants.{Accepted, Refused}
-use Rattle.codes.specs.Order.{refuse_if, and_then}
+use Rattle.codes.specs.Order.{Checked, refuse_if, and_then}
 use Rattle.dem.specs.Model.{Symptom, ErrorMechanism, symptom_fits, symptoms_fit, lists_fit, probability_fits, check_mechanism, check_model}
 use Rattle.dem.specs.Tables.{components_of, component_entries, first_of, first_entries, rest_of, model_of}
 use Rattle.dem.specs.Positions.{tables}
@@ -63,7 +62,7 @@ many zero ds os es = refl
 many (suc n) ds os es = ap suc (many n (drop 1 ds) (drop 1 os) (drop (get_or ds 0 0 + get_or os 0 0) es))
 
 -- more components than 16
-refused_many : (D O i : ℕ) (m : ErrorMechanism) → 16 < length m.components → check_mechanism D O i m ≡ Refused (Index i)
+refused_many : (D O i : ℕ) (m : ErrorMechanism) → 16 < length m.components → check_mechanism D O i m ≡ Err (Index i)
 unfolding check_mechanism lists_fit
 refused_many D O i m h =
     let e : lists_fit D O m ≡ false = rw (lt-leb (length m.components) 16 h) (and_none (symptom_fits D O m.symptom) (symptoms_fit D O m.components)) in
@@ -76,15 +75,15 @@ unfolding check_mechanism lists_fit
 check_other D O i p q y cs h = rw h
 
 -- the probability of a mechanism that is accepted
-accepted_fits : (D O i : ℕ) (m : ErrorMechanism) → check_mechanism D O i m ≡ Accepted → probability_fits m.probability ≡ true
+accepted_fits : (D O i : ℕ) (m : ErrorMechanism) → check_mechanism D O i m ≡ Ok tt → probability_fits m.probability ≡ true
 unfolding check_mechanism
 accepted_fits D O i m = go (not (lists_fit D O m)) (probability_fits m.probability)
   where
-    go : (a b : Bool) → and_then (refuse_if a (Index i)) (refuse_if (not b) (Probability i)) ≡ Accepted → b ≡ true
+    go : (a b : Bool) → and_then (refuse_if a (Index i)) (refuse_if (not b) (Probability i)) ≡ Ok tt → b ≡ true
     go true true h = refl
-    go true false h = let z : ◌≡◌ {A = ℕ} 0 1 = cc in absurd (omega arith)
+    go true false h = cc
     go false true h = refl
-    go false false h = let z : ◌≡◌ {A = ℕ} 0 1 = cc in absurd (omega arith)
+    go false false h = cc
 
 -- ---- a model
 
@@ -127,7 +126,7 @@ module _ (D O : ℕ) where
       (alike_rest n ps qs h) (bytes_rest n cs bs k))))
 
   pub same_accepted : (n i : ℕ) (ps qs : List Float) (ds os cs bs cds cos es : List ℕ) → Alike n ps qs → Bytes n cs bs
-      → check_model D O i (model_of n (tables qs ds os bs cds cos es)) ≡ Accepted
+      → check_model D O i (model_of n (tables qs ds os bs cds cos es)) ≡ Ok tt
       → model_of n (tables qs ds os bs cds cos es) ≡ model_of n (tables ps ds os cs cds cos es)
   unfolding check_model model_of first_of rest_of first_entries
   same_accepted zero i ps qs ds os cs bs cds cos es h k a = refl

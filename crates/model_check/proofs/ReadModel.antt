@@ -1,9 +1,11 @@
 -- The tables that lines were read into, as the tables of a model.
-use Prim.Native.Nat.{ℕ, zero, suc, ◌+◌, ◌-◌, ◌<◌, ◌≤◌, min}
+use Rattle.std.specs.Prelude.{Ok, Err}
+use Prim.Native.Nat.{ℕ, zero, suc, ◌+◌, ◌-◌, ◌<◌, ◌≤◌}
 use native.Mathlib.Omega.{arith}
 use mathlib.Core.Path.{◌≡◌, refl, sym, ap, ap₂, ◌∙◌, subst}
 use mathlib.Core.List.{List, [], ◌∷◌, ◌++◌, map}
-use mathlib.Core.Bool.{Bool, true, false, not}
+use mathlib.Core.Bool.{true, false}
+use mathlib.Core.Logic.{◌⊎◌, inl, inr}
 use lib.IntN.{pos}
 use lib.ListN.{length, get_or, take, drop, replicate, length-append, length-map, length-take, get_or-append, get_or-map}
 use lib.Seq.{get_or-take}
@@ -13,26 +15,22 @@ use borrow.Author.Tests.{le-ltb, lt-ltb}
 use Rattle.lists.proofs.Members.{get_d_any}
 use Rattle.codes.specs.declared.Refusal.{Refusal}
 use Rattle.codes.specs.declared.Refusal.TheVariants.{Short}
-use Rattle.codes.specs.declared.Checked.{Checked}
-use Rattle.codes.specs.declared.Checked.TheVariants.{Accepted, Refused}
-use Rattle.codes.specs.Order.{refuse_if, and_then}
+use Rattle.codes.specs.Order.{Checked}
 use Rattle.codes.specs.Limits.{check_counts}
 use Rattle.dem.specs.declared.Place.{Place}
-use Rattle.dem.specs.Model.{ErrorMechanism, probability_fits, check_model}
+use Rattle.dem.specs.Model.{probability_fits, check_model}
 use Rattle.dem.specs.Tables.{Tables, model_of, tables_of, tables_hold, tables_written, written}
 use Rattle.dem.specs.Positions.{tables, place_of, total}
 use Rattle.dem.specs.Check.{check_all}
-use Rattle.dem.specs.Laws.{Reached}
 use Rattle.dem.proofs.Reading.{read_back, ends_written}
 use Rattle.dem.proofs.Positions.{hold_of, components_sum, totals_are}
 use Rattle.frames.specs.declared.State.{State}
 use Rattle.frames.specs.Input.{Given, Input, mechanism_of, model_read, tables_read}
-use Rattle.frames.specs.Counts.{counts_of}
-use Rattle.frames.proofs.FrameKinds.{Held, held_of}
+use Rattle.frames.proofs.FrameKinds.{held_of}
 use Rattle.model_check.specs.Bits.{probability_of, Alike, Bytes}
 use Rattle.model_check.proofs.Bits.{laws}
 use Rattle.reader.specs.Columns.{Columns, columns, byte_of, columns_at, Holds}
-use Rattle.reader.proofs.Stored.{Long, read_long}
+use Rattle.reader.proofs.Stored.{read_long}
 use Rattle.reader.proofs.Written.{written_at}
 use Rattle.model_check.specs.ModelCheck.{model_tables, from_bits, check_read, ModelChecked}
 use Rattle.model_check.proofs.Sums.{total_bytes, total_le}
@@ -129,7 +127,7 @@ module _ (s : Input) (c : Columns) (e : c ≡ columns_at s c) where
         ∙ ap (check_model D O 0) model_exact
 
     -- and a model that is accepted is the one that was read
-    accepted_read : (D O : ℕ) → check_model D O 0 (model_of (length s.mechanisms) (model_tables ps c)) ≡ Accepted → model_of (length s.mechanisms) (model_tables ps c) ≡ model_read s.mechanisms
+    accepted_read : (D O : ℕ) → check_model D O 0 (model_of (length s.mechanisms) (model_tables ps c)) ≡ Ok tt → model_of (length s.mechanisms) (model_tables ps c) ≡ model_read s.mechanisms
     accepted_read D O a =
         laws.same_accepted (length s.mechanisms) D O 0 (written (tables_read s.mechanisms).probability []) ps c.detector_counts c.observable_counts
         (written (tables_read s.mechanisms).component_counts c.component_counts) c.component_counts c.component_detectors c.component_observables c.entries alike_of bytes_of a
@@ -192,10 +190,11 @@ module _ (s : Input) (c : Columns) (e : c ≡ columns_at s c) where
 -- ---- the contract
 
 module _ (n : State) (bs ds os cs cds cos es : List ℕ) (was : List Float) where
-  pub bits_short : length bs < n.mechanisms → (r : Checked) (ps : List Float) → r ≡ Refused Short → ps ≡ replicate (length was) (fin false 0 (pos 0))
-      → ModelChecked n bs ds os cs cds cos es was r ps
+  -- the bits or the column are too short
+  pub short : (length bs < n.mechanisms) ⊎ (n.mechanisms ≤ length bs) × (length was < n.mechanisms) → (r : Checked) (ps : List Float) → r ≡ Err Short
+      → ps ≡ replicate (length was) (fin false 0 (pos 0)) → ModelChecked n bs ds os cs cds cos es was r ps
   unfolding check_read
-  bits_short h r ps e q = record {
+  short (inl h) r ps e q = record {
     answers = λ ws ts. rw (lt-ltb (length bs) n.mechanisms h) e;
     column = rw e q;
     answer = λ s ws ts k _. absurd (too_short s ws ts k);
@@ -205,11 +204,7 @@ module _ (n : State) (bs ds os cs cds cos es : List ℕ) (was : List Float) wher
       too_short : (s : Input) (ws ts : List ℕ) → Holds s n (columns bs ds os cs cds cos es ws ts) → ⊥
       too_short s ws ts k =
           omega (arith, h, ap (λ (m : State). m.mechanisms) k.counts, bits_long s (columns bs ds os cs cds cos es ws ts) k.tables)
-
-  pub column_short : n.mechanisms ≤ length bs → length was < n.mechanisms → (r : Checked) (ps : List Float) → r ≡ Refused Short
-      → ps ≡ replicate (length was) (fin false 0 (pos 0)) → ModelChecked n bs ds os cs cds cos es was r ps
-  unfolding check_read
-  column_short hb h r ps e q = record {
+  short (inr (hb, h)) r ps e q = record {
     answers = λ ws ts. rw (le-ltb (length bs) n.mechanisms hb, lt-ltb (length was) n.mechanisms h) e;
     column = rw e q;
     answer = λ s ws ts _ k. absurd (omega (arith, h, k));
@@ -221,7 +216,7 @@ module _ (n : State) (bs ds os cs cds cos es : List ℕ) (was : List Float) wher
     all = check_all n.detectors n.observables n.mechanisms (tables mid ds os cs cds cos es)
 
     by : (s : Input) (ws ts : List ℕ) → Holds s n (columns bs ds os cs cds cos es ws ts)
-        → (all ≡ check_model n.detectors n.observables 0 (model_read s.mechanisms)) × (all ≡ Accepted → model_of n.mechanisms (tables mid ds os cs cds cos es) ≡ model_read s.mechanisms)
+        → (all ≡ check_model n.detectors n.observables 0 (model_read s.mechanisms)) × (all ≡ Ok tt → model_of n.mechanisms (tables mid ds os cs cds cos es) ≡ model_read s.mechanisms)
     by s ws ts k =
         let c = columns bs ds os cs cds cos es ws ts in
         let m : n.mechanisms ≡ length s.mechanisms = ap (λ (m : State). m.mechanisms) k.counts in
@@ -238,22 +233,19 @@ module _ (n : State) (bs ds os cs cds cos es : List ℕ) (was : List Float) wher
         (subst (λ (l : List Float). r ≡ check_all n.detectors n.observables n.mechanisms (tables l ds os cs cds cos es)) q e)
 
     -- a refusal of the check
-    pub checked_refused : (x : Refusal) (r : Checked) (ps : List Float) → Refused x ≡ all → r ≡ Refused x → ps ≡ replicate (length was) (fin false 0 (pos 0))
+    pub checked_refused : (x : Refusal) (r : Checked) (ps : List Float) → Err x ≡ all → r ≡ Err x → ps ≡ replicate (length was) (fin false 0 (pos 0))
         → ModelChecked n bs ds os cs cds cos es was r ps
     checked_refused x r ps e a z = record {
       answers = λ ws ts. answers_of r ws ts (a ∙ e);
       column = rw a z;
       answer = λ s ws ts k _. a ∙ e ∙ (by s ws ts k).0;
-      model = λ s ws ts k _ b. absurd (no (sym a ∙ b));
+      model = λ s ws ts k _ b. let e : ◌≡◌ {A = Checked} (Err x) (Ok tt) = sym a ∙ b in cc;
     }
-      where
-        no : Refused x ≡ Accepted → ⊥
-        no b = let y : ◌≡◌ {A = ℕ} 0 1 = cc in omega arith
 
     -- a model that is accepted
-    pub checked_accepted : Accepted ≡ all → ModelChecked n bs ds os cs cds cos es was Accepted mid
+    pub checked_accepted : Ok tt ≡ all → ModelChecked n bs ds os cs cds cos es was (Ok tt) mid
     checked_accepted e = record {
-      answers = λ ws ts. answers_of Accepted ws ts e;
+      answers = λ ws ts. answers_of (Ok tt) ws ts e;
       column = q;
       answer = λ s ws ts k _. e ∙ (by s ws ts k).0;
       model = λ s ws ts k _ a. (by s ws ts k).1 (sym e);

@@ -1,8 +1,7 @@
 -- What the model check says of such columns; proofs/Laws.antt proves it.
-use Rattle.std.specs.Prelude.{ℕ, ◌≡◌, true, List, Float}
+use Rattle.std.specs.Prelude.{Ok, ℕ, ◌≡◌, true, List, Float}
 use Rattle.std.specs.Float.Ieee as Ieee
 use Rattle.std.specs.Float.{binary64}
-use Rattle.codes.specs.declared.Checked.TheVariants.{Accepted}
 use Rattle.dem.specs.Model.{probability_fits, check_model}
 use Rattle.dem.specs.Tables.{model_of}
 use Rattle.dem.specs.Positions.{tables}
@@ -17,5 +16,5 @@ pub record Laws : Type 0 where
       → check_model D O i (model_of n (tables qs ds os bs cds cos es)) ≡ check_model D O i (model_of n (tables ps ds os cs cds cos es))
   -- and a model that it accepts is the same
   pub same_accepted : (n D O i : ℕ) (ps qs : List Float) (ds os cs bs cds cos es : List ℕ) → Alike n ps qs → Bytes n cs bs
-      → check_model D O i (model_of n (tables qs ds os bs cds cos es)) ≡ Accepted
+      → check_model D O i (model_of n (tables qs ds os bs cds cos es)) ≡ Ok tt
       → model_of n (tables qs ds os bs cds cos es) ≡ model_of n (tables ps ds os cs cds cos es)

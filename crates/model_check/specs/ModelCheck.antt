@@ -1,10 +1,8 @@
 -- The model is checked at 04: docs/RULES.md, "Frames".
-use Rattle.std.specs.Prelude.{ℕ, ◌≤◌, ◌≡◌, false, ◌||◌, List, ◌++◌, map, pos, ltb, length, take, drop, replicate, Float}
+use Rattle.std.specs.Prelude.{Ok, Err, ℕ, ◌≤◌, ◌≡◌, false, ◌||◌, List, ◌++◌, map, pos, ltb, length, take, drop, replicate, Float}
 use Rattle.std.specs.Float.{fin}
 use Rattle.codes.specs.declared.Refusal.TheVariants.{Short}
-use Rattle.codes.specs.declared.Checked.{Checked}
-use Rattle.codes.specs.declared.Checked.TheVariants.{Accepted, Refused}
-use Rattle.codes.specs.Order.{refuse_if, and_then}
+use Rattle.codes.specs.Order.{Checked, refuse_if, and_then}
 use Rattle.dem.specs.Model.{check_model}
 use Rattle.dem.specs.Tables.{Tables, model_of}
 use Rattle.dem.specs.Positions.{tables}
@@ -31,8 +29,8 @@ check_read n c was =
 
 -- the column of probabilities; after a refusal it is zero, whole
 abbrev pub column_left : Checked → ℕ → List ℕ → List Float → List Float
-column_left (Refused r) m bs was = replicate (length was) (fin false 0 (pos 0))
-column_left Accepted m bs was = from_bits m bs was
+column_left (Err r) m bs was = replicate (length was) (fin false 0 (pos 0))
+column_left (Ok tt) m bs was = from_bits m bs was
 
 -- all that the call promises: its answer r to the model that was read into seven tables, and the column ps that it leaves where was stood
 pub record ModelChecked (n : State) (bs ds os cs cds cos es : List ℕ) (was : List Float) (r : Checked) (ps : List Float) : Type 0 where
@@ -42,5 +40,5 @@ pub record ModelChecked (n : State) (bs ds os cs cds cos es : List ℕ) (was : L
   pub answer : (s : Input) (ws ts : List ℕ) → Holds s n (columns bs ds os cs cds cos es ws ts) → n.mechanisms ≤ length was
       → r ≡ check_model n.detectors n.observables 0 (model_read s.mechanisms)
   -- and where it is accepted, the tables are that model's
-  pub model : (s : Input) (ws ts : List ℕ) → Holds s n (columns bs ds os cs cds cos es ws ts) → n.mechanisms ≤ length was → r ≡ Accepted
+  pub model : (s : Input) (ws ts : List ℕ) → Holds s n (columns bs ds os cs cds cos es ws ts) → n.mechanisms ≤ length was → r ≡ Ok tt
       → model_of n.mechanisms (tables ps ds os cs cds cos es) ≡ model_read s.mechanisms

@@ -1,10 +1,9 @@
 // docs/RULES.md, "Frames": the model that was read, its probabilities from their bits, and its check at 04.
 #![tactic(auto)]
 
-ghost use Rattle.std.specs.Prelude.{◌≡◌, ◌++◌, map, ◌≤◌, length, take, drop, replicate, false, pos};
+ghost use Rattle.std.specs.Prelude.{Err, ◌≡◌, ◌++◌, map, ◌≤◌, length, take, drop, replicate, false, pos};
 ghost use Rattle.model_check.specs.Bits.{probability_of};
 ghost use Rattle.std.specs.Float.{fin};
-ghost use Rattle.codes.specs.declared.Checked.TheVariants as checked;
 ghost use Rattle.model_check.specs.ModelCheck.{ModelChecked};
 
 use codes::{Checked, Refusal};
@@ -30,19 +29,17 @@ pub fn probabilities(bits: &[u64], n: usize, out: &mut [f64])
     requires { (n ≤ length bits.now) × (n ≤ length out.old) }
     ensures { out.new ≡ map probability_of (take n bits.now) ++ drop n out.old }
 {
-    let mut i = 0;
-    while i < n {
+    for i in 0..n {
         out[i] = probability_of(bits[i]);
-        i += 1;
     }
 }
 
 // A refusal leaves the column zero, whole.
 fn refuse(r: Refusal, probability: &mut [f64]) -> Checked
-    ensures { (result ≡ checked.Refused r) × (probability.new ≡ replicate (length probability.old) (fin false 0 (pos 0))) }
+    ensures { (result ≡ Err r) × (probability.new ≡ replicate (length probability.old) (fin false 0 (pos 0))) }
 {
-    tables::fill_f64(probability, 0.0);
-    Checked::Refused(r)
+    probability.fill(0.0);
+    Err(r)
 }
 
 // The probabilities from their bits, then the check of the model.
@@ -60,10 +57,7 @@ pub fn check_read(
     ensures { ModelChecked n probability_bits.now detector_counts.now observable_counts.now component_counts.now component_detectors.now component_observables.now entries.now probability.old result probability.new }
 {
     let mechanisms = n.mechanisms;
-    if probability_bits.len() < mechanisms {
-        return refuse(Refusal::Short, probability);
-    }
-    if probability.len() < mechanisms {
+    if probability_bits.len() < mechanisms || probability.len() < mechanisms {
         return refuse(Refusal::Short, probability);
     }
     probabilities(probability_bits, mechanisms, probability);
@@ -80,7 +74,7 @@ pub fn check_read(
         entries,
     );
     match checked {
-        Checked::Refused(r) => refuse(r, probability),
-        Checked::Accepted => Checked::Accepted,
+        Err(r) => refuse(r, probability),
+        Ok(()) => Ok(()),
     }
 }

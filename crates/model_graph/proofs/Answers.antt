@@ -1,7 +1,8 @@
 -- The answers of the calls on tables into which an input was read.
+use Rattle.std.specs.Prelude.{Result, Ok, Err}
 use Prim.Native.Nat.{ℕ, ◌-◌, ◌*◌, ◌≤◌, min}
 use native.Mathlib.Omega.{arith}
-use native.Mathlib.Nat.{mul-le-mul, sub-zero}
+use native.Mathlib.Nat.{mul-le-mul, sub-zero, min_comm}
 use mathlib.Core.Path.{◌≡◌, refl, sym, ap, ◌∙◌, subst}
 use mathlib.Core.List.{List, []}
 use mathlib.Core.Bool.{true, false, not}
@@ -12,13 +13,11 @@ use lib.Dec.{leb}
 use lib.Ieee.{Float, fin}
 use borrow.Author.Tests.{leb-true, leb-false, le-leb, le-ltb}
 use Rattle.lists.proofs.Truth.{case-of, and_left, and_right}
-use Rattle.columns.specs.Columns.{column}
-use Rattle.columns.proofs.Columns.{column_length}
+use Rattle.counts.specs.Rows.{column}
+use Rattle.counts.proofs.Rows.{column_length}
 use Rattle.codes.specs.declared.Refusal.{Refusal}
 use Rattle.codes.specs.declared.Refusal.TheVariants.{Short}
-use Rattle.codes.specs.declared.Checked.{Checked}
-use Rattle.codes.specs.declared.Checked.TheVariants.{Accepted, Refused}
-use Rattle.codes.specs.Order.{refuse_if, and_then}
+use Rattle.codes.specs.Order.{Checked, refuse_if, and_then}
 use Rattle.codes.specs.Limits.{check_counts}
 use Rattle.bits.specs.Rows.{words}
 use Rattle.dem.specs.Model.{ErrorMechanism, check_model}
@@ -31,13 +30,9 @@ use Rattle.dem.proofs.Laws.{laws}
 use Rattle.suggested.proofs.Models.{lengths}
 use Rattle.split_model.specs.declared.Counts.{Counts}
 use Rattle.decompose.specs.declared.Scratch.{Scratch}
-use Rattle.decompose.specs.declared.Decomposed.{Decomposed}
-use Rattle.decompose.specs.declared.Decomposed.TheVariants as decomposed
 use Rattle.decompose.specs.Call as call
 use Rattle.decompose.specs.Call.{room_of, scratch_long, long, checked, outcome_of, outcome, tables_left, Decomposes}
 use Rattle.lent_graph.specs.Lent.{tables_long}
-use Rattle.graph.specs.declared.Compiled.{Compiled}
-use Rattle.graph.specs.declared.Compiled.TheVariants as compiled
 use Rattle.edges.specs.Compile as edges
 use Rattle.edges.specs.Compile.{Edges, compile}
 use Rattle.edges.specs.Tables.{Slices, slices}
@@ -121,35 +116,32 @@ outcome_at : (D O m : ℕ) (p q : List Float) (ds os cs cds cos es : List ℕ) (
     → outcome D O m (tables p ds os cs cds cos es) was sc ≡ outcome D O m (tables q ds os cs cds cos es) held hs
 outcome_at D O m p q ds os cs cds cos es was held sc hs a b c = cc
 
-pub tables_held : (es : List ℕ) → es ≡ replicate 8192 0 → tables zeros (replicate 1024 0) (replicate 1024 0) (replicate 1024 0) (replicate 1024 0) (replicate 1024 0) es ≡ held_tables
-tables_held es e = ap (tables zeros (replicate 1024 0) (replicate 1024 0) (replicate 1024 0) (replicate 1024 0) (replicate 1024 0)) e
-
-scratch_of_lem : (a b c d e f g h i j : ℕ) → 17408 ≡ a → 17408 ≡ b → c ≡ 256 → d ≡ 256 → e ≡ 1024 → f ≡ 1024 → g ≡ 1024 → h ≡ 1024 → i ≡ 1024 → j ≡ 1024
+scratch_of_lem : (a b c d e f g h i j : ℕ) → a ≡ 17408 → b ≡ 17408 → c ≡ 256 → d ≡ 256 → e ≡ 1024 → f ≡ 1024 → g ≡ 1024 → h ≡ 1024 → i ≡ 1024 → j ≡ 1024
     → ◌≡◌ {A = Scratch} (record { starts = a; before = b; last_of = c; first_of = d; next_of = e; numbers = f; masks = g; words0 = h; words1 = i; earlier = j }) held_scratch
-scratch_of_lem a b c d e f g h i j e1 e2 e3 e4 e5 e6 e7 e8 e9 e10 = rw (← e1, ← e2, e3, e4, e5, e6, e7, e8, e9, e10) refl
+scratch_of_lem a b c d e f g h i j e1 e2 e3 e4 e5 e6 e7 e8 e9 e10 = rw (e1, e2, e3, e4, e5, e6, e7, e8, e9, e10) refl
 
-pub scratch_is : (s : Scratch) → 17408 ≡ s.starts → 17408 ≡ s.before → s.last_of ≡ 256 → s.first_of ≡ 256 → s.next_of ≡ 1024 → s.numbers ≡ 1024 → s.masks ≡ 1024
+pub scratch_is : (s : Scratch) → s.starts ≡ 17408 → s.before ≡ 17408 → s.last_of ≡ 256 → s.first_of ≡ 256 → s.next_of ≡ 1024 → s.numbers ≡ 1024 → s.masks ≡ 1024
     → s.words0 ≡ 1024 → s.words1 ≡ 1024 → s.earlier ≡ 1024 → s ≡ held_scratch
 scratch_is s = scratch_of_lem s.starts s.before s.last_of s.first_of s.next_of s.numbers s.masks s.words0 s.words1 s.earlier
 
 module _ (n : State) (bs ds os cs cds cos es ws ts : List ℕ) (ps : List Float) where
   -- a model that is refused
-  pub refused_read : (x : Refusal) (left : Tables) → ModelChecked n bs ds os cs cds cos es zeros (Refused x) ps
-      → DecomposedRead n (columns bs ds os cs cds cos es ws ts) (decomposed.Refused x) left
+  pub refused_read : (x : Refusal) (left : Tables) → ModelChecked n bs ds os cs cds cos es zeros (Err x) ps
+      → DecomposedRead n (columns bs ds os cs cds cos es ws ts) (Err x) left
   refused_read x left m =
-      let is = split_as n (columns bs ds os cs cds cos es ws ts) (Refused x) (sym (m.answers ws ts)) in
+      let is = split_as n (columns bs ds os cs cds cos es ws ts) (Err x) (sym (m.answers ws ts)) in
       record { answer = sym (ap call.answer_of is); tables = λ ms e. absurd (no (sym is ∙ e)) }
     where
       no : {ms : List ErrorMechanism} → refused x ≡ into ms → ⊥
-      no e = let q : ◌≡◌ {A = ℕ} 0 1 = cc in omega arith
+      no e = cc
 
   -- a model that is accepted is decomposed
-  pub accepted_read : (was : Tables) (sc : Scratch) (r : Decomposed) (left : Tables) → ModelChecked n bs ds os cs cds cos es zeros Accepted ps
+  pub accepted_read : (was : Tables) (sc : Scratch) (r : Result Counts Refusal) (left : Tables) → ModelChecked n bs ds os cs cds cos es zeros (Ok tt) ps
       → Decomposes (outcome n.detectors n.observables n.mechanisms (tables ps ds os cs cds cos es) was sc) r was left → was ≡ held_tables → sc ≡ held_scratch
       → DecomposedRead n (columns bs ds os cs cds cos es ws ts) r left
   accepted_read was sc r left m d w h =
       let same = outcome_at n.detectors n.observables n.mechanisms ps (from_bits n.mechanisms bs zeros) ds os cs cds cos es was held_tables sc held_scratch m.column w h
-      ∙ sym (split_as n (columns bs ds os cs cds cos es ws ts) Accepted (sym (m.answers ws ts))) in
+      ∙ sym (split_as n (columns bs ds os cs cds cos es ws ts) (Ok tt) (sym (m.answers ws ts))) in
       record {
         answer = d.answer ∙ ap call.answer_of same;
         tables = λ ms e. d.tables ∙ ap (λ (x : Split). tables_left x was) (same ∙ e) ∙ ap (λ (t : Tables). tables_written ms t) w;
@@ -176,7 +168,7 @@ module _ (n : State) (bs ds os cs cds cos es ws ts : List ℕ) (zs : List Float)
   check_is = rw (le-ltb (length bs) n.mechanisms long_bits, le-ltb (length zs) n.mechanisms fits) refl
 
   module _ (was : Tables) (sc : Scratch) (h : Held was) (long-scratch : Scratched sc) where
-    accepted_held : ModelChecked n bs ds os cs cds cos es zs Accepted (from_bits n.mechanisms bs zs) → Accepted ≡ all
+    accepted_held : ModelChecked n bs ds os cs cds cos es zs (Ok tt) (from_bits n.mechanisms bs zs) → (Ok tt) ≡ all
         → outcome n.detectors n.observables n.mechanisms read was sc ≡ split_read n.detectors n.observables (model_read s.mechanisms)
     unfolding outcome checked long tables_hold split_read
     accepted_held m e =
@@ -203,10 +195,10 @@ module _ (n : State) (bs ds os cs cds cos es ws ts : List ℕ) (zs : List Float)
     split_held : (x : Checked) → x ≡ all
         → outcome_of x (outcome n.detectors n.observables n.mechanisms read was sc) ≡ split_read n.detectors n.observables (model_read s.mechanisms)
     unfolding split_read
-    split_held (Refused x) e =
-        let m = checked_refused n bs ds os cs cds cos es zs long_bits fits (from_bits n.mechanisms bs zs) refl x (Refused x) (replicate (length zs) (fin false 0 (pos 0))) e refl refl in
+    split_held (Err x) e =
+        let m = checked_refused n bs ds os cs cds cos es zs long_bits fits (from_bits n.mechanisms bs zs) refl x (Err x) (replicate (length zs) (fin false 0 (pos 0))) e refl refl in
         rw (← m.answer s ws ts k fits) refl
-    split_held Accepted e = accepted_held (checked_accepted n bs ds os cs cds cos es zs long_bits fits (from_bits n.mechanisms bs zs) refl e) e
+    split_held (Ok tt) e = accepted_held (checked_accepted n bs ds os cs cds cos es zs long_bits fits (from_bits n.mechanisms bs zs) refl e) e
 
 -- the split is that of the model that was read
 split_same : (n : State) (c : Columns) (s : Input) → Holds s n c → Sized c → split_in n c ≡ split_read n.detectors n.observables (model_read s.mechanisms)
@@ -265,42 +257,42 @@ graph_same n c entry few s k l w =
     ∙ ap (compile_split n.detectors n.observables) (split_same n c s k l)
 
 -- the scratch that holds probabilities is not told of
-pub bare : (D O : ℕ) (e : Edges) (r : Compiled) (entry exit : Slices) → Compiles D O e r entry exit
+pub bare : (D O : ℕ) (e : Edges) (r : Result ℕ Refusal) (entry exit : Slices) → Compiles D O e r entry exit
     → Compiles D O e r (slices entry.edge_u entry.edge_v entry.edge_weight entry.edge_obs []) (slices exit.edge_u exit.edge_v exit.edge_weight exit.edge_obs [])
 bare D O e r entry exit c = record { sheet = c.sheet; answer = c.answer; ends = c.ends; others = c.others; weights = c.weights; rows = c.rows }
 
 -- ---- both
 
 -- tables that are zero, and a refusal
-pub refused_zero : (D O : ℕ) (x : Refusal) (r : Compiled) (entry exit : Slices) → r ≡ compiled.Refused x → exit.edge_u ≡ replicate (length entry.edge_u) 0
+pub refused_zero : (D O : ℕ) (x : Refusal) (r : Result ℕ Refusal) (entry exit : Slices) → r ≡ Err x → exit.edge_u ≡ replicate (length entry.edge_u) 0
     → exit.edge_v ≡ replicate (length entry.edge_v) 0 → exit.edge_weight ≡ replicate (length entry.edge_weight) (fin false 0 (pos 0))
     → exit.edge_obs ≡ replicate (length entry.edge_obs) 0 → Compiles D O (edges.refused x) r entry exit
 unfolding graph.answer_of graph.call_row table_left
 refused_zero D O x r entry exit a u v w o = record { sheet = ap graph.sheet_of a; answer = a; ends = u; others = v; weights = w; rows = o }
 
-module _ (n : State) (c : Columns) (left : Tables) (entry exit : Slices) (r : Compiled) where
+module _ (n : State) (c : Columns) (left : Tables) (entry exit : Slices) (r : Result ℕ Refusal) where
   -- a refusal of decomposition is the answer
-  pub graph_refused : (x : Refusal) → DecomposedRead n c (decomposed.Refused x) left → Compiles n.detectors n.observables (edges.refused x) r entry exit → GraphRead n c entry r exit
+  pub graph_refused : (x : Refusal) → DecomposedRead n c (Err x) left → Compiles n.detectors n.observables (edges.refused x) r entry exit → GraphRead n c entry r exit
   unfolding graph_in
   graph_refused x d z = record {
     compiles = by (split_in n c) d.answer;
     read = graph_same n c entry (λ ms e. absurd (no ms (d.answer ∙ ap call.answer_of e)));
   }
     where
-      by : (y : Split) → decomposed.Refused x ≡ call.answer_of y → Compiles n.detectors n.observables (edges_in n.detectors n.observables entry y) r entry exit
+      by : (y : Split) → Err x ≡ call.answer_of y → Compiles n.detectors n.observables (edges_in n.detectors n.observables entry y) r entry exit
       by (refused q) e = let same : x ≡ q = cc in subst (λ (y : Refusal). Compiles n.detectors n.observables (edges.refused y) r entry exit) same z
-      by (into ms) e = absurd (let q : ◌≡◌ {A = ℕ} 0 1 = cc in omega arith)
+      by (into ms) e = cc
 
-      no : (ms : List ErrorMechanism) → decomposed.Refused x ≡ call.answer_of (into ms) → ⊥
-      no ms e = let q : ◌≡◌ {A = ℕ} 0 1 = cc in omega arith
+      no : (ms : List ErrorMechanism) → Err x ≡ call.answer_of (into ms) → ⊥
+      no ms e = cc
 
   -- a decomposed model is compiled
-  module _ (k : Counts) (long : length left.detector_counts ≡ 1024) (d : DecomposedRead n c (decomposed.Into k) left)
+  module _ (k : Counts) (long : length left.detector_counts ≡ 1024) (d : DecomposedRead n c (Ok k) left)
       (z : Compiles n.detectors n.observables
       (graph.outcome n.detectors n.observables k.mechanisms left (slices entry.edge_u entry.edge_v entry.edge_weight entry.edge_obs zeros) (replicate 256 0) (replicate 1024 0)) r entry exit) where
-    many : Decomposed → ℕ
-    many (decomposed.Into x) = x.mechanisms
-    many (decomposed.Refused x) = 0
+    many : Result Counts Refusal → ℕ
+    many (Ok x) = x.mechanisms
+    many (Err x) = 0
 
     few : (ms : List ErrorMechanism) → split_in n c ≡ into ms → length ms ≤ 1024
     unfolding tables_written
@@ -311,10 +303,10 @@ module _ (n : State) (c : Columns) (left : Tables) (entry exit : Slices) (r : Co
         → graph.outcome n.detectors n.observables m t g first next ≡ graph.outcome n.detectors n.observables m' t' g first next
     outcome_of_lem m m' t t' g first next a b = cc
 
-    by : (y : Split) → decomposed.Into k ≡ call.answer_of y → ((ms : List ErrorMechanism) → y ≡ into ms → left ≡ tables_written ms held_tables)
+    by : (y : Split) → Ok k ≡ call.answer_of y → ((ms : List ErrorMechanism) → y ≡ into ms → left ≡ tables_written ms held_tables)
         → Compiles n.detectors n.observables (edges_in n.detectors n.observables entry y) r entry exit
     unfolding many
-    by (refused x) e f = absurd (let q : ◌≡◌ {A = ℕ} 0 1 = cc in omega arith)
+    by (refused x) e f = cc
     by (into ms) e f =
         subst (λ (y : Edges). Compiles n.detectors n.observables y r entry exit)
         (outcome_of_lem k.mechanisms (length ms) left (tables_written ms held_tables) (slices entry.edge_u entry.edge_v entry.edge_weight entry.edge_obs zeros) (replicate 256 0) (replicate 1024 0) (ap many e) (f ms refl))
@@ -335,10 +327,10 @@ take_within m l =
     let e : min m (length l) ≡ length l = omega arith in
     ap (λ (k : ℕ). take k l) e ∙ take-length l ∙ sym (take_all m l (omega arith)))
 
-pub held_is : (k m : ℕ) (counts : List (List ℕ)) (out : List ℕ) → m ≡ min 1024 (length counts) → take m out ≡ take m (column 0 k counts) → take (m - 0) out ≡ held k counts
+pub held_is : (k m : ℕ) (counts : List (List ℕ)) (out : List ℕ) → m ≡ min (length counts) 1024 → take m out ≡ take m (column 0 k counts) → take (m - 0) out ≡ held k counts
 held_is k m counts out e q =
-    ap (λ (j : ℕ). take j out) (sub-zero m) ∙ q ∙ ap (λ (j : ℕ). take j (column 0 k counts)) (e ∙ ap (min 1024) (sym (column_length 0 k counts))) ∙ take_within 1024 (column 0 k counts)
+    ap (λ (j : ℕ). take j out) (sub-zero m) ∙ q ∙ ap (λ (j : ℕ). take j (column 0 k counts)) (e ∙ ap (λ (j : ℕ). min j 1024) (sym (column_length 0 k counts)) ∙ min_comm (length (column 0 k counts)) 1024) ∙ take_within 1024 (column 0 k counts)
 
-pub graph_by_lem : (n : State) (bs ds os cs cds cos ds' os' cs' cds' cos' es : List ℕ) (entry : Slices) (r : Compiled) (exit : Slices) → ds ≡ ds' → os ≡ os' → cs ≡ cs' → cds ≡ cds' → cos ≡ cos'
+pub graph_by_lem : (n : State) (bs ds os cs cds cos ds' os' cs' cds' cos' es : List ℕ) (entry : Slices) (r : Result ℕ Refusal) (exit : Slices) → ds ≡ ds' → os ≡ os' → cs ≡ cs' → cds ≡ cds' → cos ≡ cos'
     → GraphBy n bs ds os cs cds cos es entry r exit → GraphBy n bs ds' os' cs' cds' cos' es entry r exit
 graph_by_lem n bs ds os cs cds cos ds' os' cs' cds' cos' es entry r exit e1 e2 e3 e4 e5 g = rw (← e1, ← e2, ← e3, ← e4, ← e5) g

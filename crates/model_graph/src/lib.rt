@@ -1,33 +1,16 @@
 // docs/RULES.md, "Frames": at 04 the model that was read is checked, decomposed and compiled.
 #![tactic(auto)]
 
-ghost use Rattle.std.specs.Prelude.{min, ◌≡◌, [], length, replicate};
+ghost use Rattle.std.specs.Prelude.{◌≡◌, [], replicate};
 ghost use Rattle.dem.specs.Positions.{tables};
 ghost use Rattle.edges.specs.Tables.{slices};
 ghost use Rattle.graph.specs.Outcome.{outcome, Compiles};
 ghost use Rattle.model_graph.specs.Graph.{zeros, held_tables};
 ghost use Rattle.model_graph.specs.Answers.{DecomposedBy, GraphBy, held};
 
-use codes::Checked;
-use decompose::Decomposed;
+use codes::Refusal;
 use frames::State;
-use graph::Compiled;
-
-// ---- tables of zeros
-
-// An entry for each of the mechanisms that a split may bring: 17 for each of 1,024.
-fn appended() -> [u32; 17408]
-    ensures { 17408 ≡ length result }
-{
-    [0; 17408]
-}
-
-// Places for all list entries.
-fn entries() -> [u32; 8192]
-    ensures { result ≡ replicate 8192 0 }
-{
-    [0; 8192]
-}
+use split_model::Counts;
 
 // ---- 04
 
@@ -48,12 +31,12 @@ fn decompose_read(
     out_component_detectors: &mut [u8],
     out_component_observables: &mut [u8],
     out_entries: &mut [u32],
-) -> Decomposed
+) -> Result<Counts, Refusal>
     requires { tables out_probability.old out_detector_counts.old out_observable_counts.old out_component_counts.old out_component_detectors.old out_component_observables.old out_entries.old ≡ held_tables }
     ensures { DecomposedBy n probability_bits.now detector_counts.now observable_counts.now component_counts.now component_detectors.now component_observables.now entries.now result (tables out_probability.new out_detector_counts.new out_observable_counts.new out_component_counts.new out_component_detectors.new out_component_observables.new out_entries.new) }
 {
     let mut probability = [0.0f64; 1024];
-    let checked = model_check::check_read(
+    model_check::check_read(
         n,
         probability_bits,
         detector_counts,
@@ -63,12 +46,9 @@ fn decompose_read(
         component_observables,
         entries,
         &mut probability,
-    );
-    if let Checked::Refused(r) = checked {
-        return Decomposed::Refused(r);
-    }
-    let mut starts = appended();
-    let mut before = appended();
+    )?;
+    let mut starts = [0u32; 17408];
+    let mut before = [0u32; 17408];
     let mut last_of = [0u32; 256];
     let mut first_of = [0u32; 256];
     let mut next_of = [0u32; 1024];
@@ -124,7 +104,7 @@ fn compile(
     edge_v: &mut [u32],
     edge_weight: &mut [f64],
     edge_obs: &mut [u64],
-) -> Compiled
+) -> Result<usize, Refusal>
     ensures { Compiles detectors observables (outcome detectors observables mechanisms (tables probability.now detector_counts.now observable_counts.now component_counts.now component_detectors.now component_observables.now entries.now) (slices edge_u.old edge_v.old edge_weight.old edge_obs.old zeros) (replicate 256 0) (replicate 1024 0)) result (slices edge_u.old edge_v.old edge_weight.old edge_obs.old []) (slices edge_u.new edge_v.new edge_weight.new edge_obs.new []) }
 {
     let mut edge_p = [0.0f64; 1024];
@@ -165,7 +145,7 @@ fn graph_of(
     edge_v: &mut [u32],
     edge_weight: &mut [f64],
     edge_obs: &mut [u64],
-) -> Compiled
+) -> Result<usize, Refusal>
     ensures { GraphBy n probability_bits.now detector_counts.now observable_counts.now component_counts.now component_detectors.now component_observables.now entries.now (slices edge_u.old edge_v.old edge_weight.old edge_obs.old []) result (slices edge_u.new edge_v.new edge_weight.new edge_obs.new []) }
 {
     let mut out_probability = [0.0f64; 1024];
@@ -174,7 +154,7 @@ fn graph_of(
     let mut out_component_counts = [0u8; 1024];
     let mut out_component_detectors = [0u8; 1024];
     let mut out_component_observables = [0u8; 1024];
-    let mut out_entries = crate::entries();
+    let mut out_entries = [0u32; 8192];
     let decomposed = decompose_read(
         n,
         probability_bits,
@@ -193,8 +173,8 @@ fn graph_of(
         &mut out_entries,
     );
     match decomposed {
-        Decomposed::Refused(r) => graph::refuse(r, edge_u, edge_v, edge_weight, edge_obs),
-        Decomposed::Into(counts) => compile(
+        Err(r) => graph::refuse(r, edge_u, edge_v, edge_weight, edge_obs),
+        Ok(counts) => compile(
             n.detectors,
             n.observables,
             counts.mechanisms,
@@ -213,16 +193,6 @@ fn graph_of(
     }
 }
 
-// As many rows as are held, of so many.
-fn rows_held(n: usize) -> usize
-    ensures { result ≡ min 1024 n }
-{
-    if n < frames::MAX_MECHANISMS {
-        return n;
-    }
-    frames::MAX_MECHANISMS
-}
-
 // The graph of the model that was read, into its tables. Of the table of counts the first 1,024 rows are read, as many as lines fill, and no others.
 pub fn model_graph(
     n: State,
@@ -233,10 +203,10 @@ pub fn model_graph(
     edge_v: &mut [u32],
     edge_weight: &mut [f64],
     edge_obs: &mut [u64],
-) -> Compiled
+) -> Result<usize, Refusal>
     ensures { GraphBy n probability_bits.now (held 0 counts.now) (held 1 counts.now) (held 2 counts.now) (held 3 counts.now) (held 4 counts.now) entries.now (slices edge_u.old edge_v.old edge_weight.old edge_obs.old []) result (slices edge_u.new edge_v.new edge_weight.new edge_obs.new []) }
 {
-    let rows = rows_held(counts.len());
+    let rows = counts.len().min(frames::MAX_MECHANISMS);
     let detector_counts = counts::column_of(counts, counts::DETECTORS, rows);
     let observable_counts = counts::column_of(counts, counts::OBSERVABLES, rows);
     let component_counts = counts::column_of(counts, counts::COMPONENTS, rows);

@@ -1,7 +1,7 @@
 // docs/RULES.md, "Refusals", 2: the lengths that decomposition asks of its output tables and its scratch.
 #![tactic(auto)]
 
-ghost use Rattle.std.specs.Prelude.{◌≡◌, ◌&&◌, min, ◌≤◌, leb};
+ghost use Rattle.std.specs.Prelude.{◌≡◌, ◌&&◌, ◌≤◌, leb};
 ghost use Rattle.codes.specs.Limits.{max_mechanisms};
 ghost use Rattle.dem.specs.Tables.{columns_hold, lists_hold};
 ghost use Rattle.dem.specs.Positions.{tables};
@@ -19,16 +19,8 @@ pub fn fits(need: usize, len: usize, others: bool) -> bool
     need <= len && others
 }
 
-fn least(a: usize, b: usize) -> usize
-    ensures { result ≡ min a b }
-{
-    if a < b {
-        return a;
-    }
-    b
-}
-
 // The output tables are long enough for the model given.
+#[tactic(auto, unfolding(dem::specs::Tables::columns_hold, dem::specs::Tables::lists_hold))]
 pub fn output_long(
     mechanisms: usize,
     end: Place,
@@ -44,25 +36,13 @@ pub fn output_long(
 {
     let n = mechanisms;
     let c = end.component;
-    let e = end.entry;
-    let lists = fits(
-        c,
-        out_component_detectors.len(),
-        fits(c, out_component_observables.len(), e <= out_entries.len()),
-    );
-    let columns = fits(
-        n,
-        out_probability.len(),
-        fits(
-            n,
-            out_detector_counts.len(),
-            fits(
-                n,
-                out_observable_counts.len(),
-                n <= out_component_counts.len(),
-            ),
-        ),
-    );
+    let columns = n <= out_probability.len()
+        && n <= out_detector_counts.len()
+        && n <= out_observable_counts.len()
+        && n <= out_component_counts.len();
+    let lists = c <= out_component_detectors.len()
+        && c <= out_component_observables.len()
+        && end.entry <= out_entries.len();
     columns && lists
 }
 
@@ -78,15 +58,18 @@ pub fn room(
 ) -> Size
     ensures { places_of result ≡ room_of (tables out_probability.now out_detector_counts.now out_observable_counts.now out_component_counts.now out_component_detectors.now out_component_observables.now out_entries.now) }
 {
-    let fewest = least(out_observable_counts.len(), out_component_counts.len());
-    let fewer = least(out_detector_counts.len(), fewest);
     Size {
-        mechanisms: least(out_probability.len(), fewer),
+        mechanisms: out_probability
+            .len()
+            .min(out_detector_counts.len())
+            .min(out_observable_counts.len())
+            .min(out_component_counts.len()),
         entries: out_entries.len(),
     }
 }
 
 // And so are the scratch slices: a mechanism may bring 16 more.
+#[tactic(auto, unfolding(decompose::specs::Call::scratch_long))]
 pub fn scratch_long(detectors: usize, mechanisms: usize, s: Scratch) -> bool
     requires { mechanisms ≤ max_mechanisms }
     ensures { result ≡ scratch_long detectors mechanisms s }
@@ -94,15 +77,14 @@ pub fn scratch_long(detectors: usize, mechanisms: usize, s: Scratch) -> bool
     let d = detectors;
     let n = mechanisms;
     let most = 17 * n;
-    let words = fits(n, s.words0, fits(n, s.words1, n <= s.earlier));
-    let candidates = fits(n, s.next_of, fits(n, s.numbers, fits(n, s.masks, words)));
-    fits(
-        most,
-        s.starts,
-        fits(
-            most,
-            s.before,
-            fits(d, s.last_of, fits(d, s.first_of, candidates)),
-        ),
-    )
+    most <= s.starts
+        && most <= s.before
+        && d <= s.last_of
+        && d <= s.first_of
+        && n <= s.next_of
+        && n <= s.numbers
+        && n <= s.masks
+        && n <= s.words0
+        && n <= s.words1
+        && n <= s.earlier
 }

@@ -14,6 +14,7 @@ use codes::{Checked, Refusal};
 use dem::Place;
 
 // An entry in each column for n mechanisms.
+#[tactic(auto, unfolding(dem::specs::Tables::columns_hold))]
 fn columns_hold(
     n: usize,
     probability: &[f64],
@@ -23,19 +24,14 @@ fn columns_hold(
 ) -> bool
     ensures { result ≡ columns_hold n (tables probability.now detector_counts.now observable_counts.now component_counts.now [] [] []) }
 {
-    if probability.len() < n {
-        return false;
-    }
-    if detector_counts.len() < n {
-        return false;
-    }
-    if observable_counts.len() < n {
-        return false;
-    }
-    n <= component_counts.len()
+    n <= probability.len()
+        && n <= detector_counts.len()
+        && n <= observable_counts.len()
+        && n <= component_counts.len()
 }
 
 // The tables hold the mechanisms that their counts tell of, or 2. Long for its parameters, one a line.
+#[tactic(auto, using(dem::proofs::Positions::columns_alone, dem::proofs::Positions::lengths, dem::proofs::Positions::tables_parts, dem::proofs::Positions::entries_alone))]
 pub fn check_tables(
     mechanisms: usize,
     probability: &[f64],
@@ -56,14 +52,11 @@ pub fn check_tables(
         observable_counts,
         component_counts,
     ) {
-        return Checked::Refused(Refusal::Short);
+        return Err(Refusal::Short);
     }
     let components = dem::sum(&component_counts[0..mechanisms]);
-    if component_detectors.len() < components {
-        return Checked::Refused(Refusal::Short);
-    }
-    if component_observables.len() < components {
-        return Checked::Refused(Refusal::Short);
+    if component_detectors.len() < components || component_observables.len() < components {
+        return Err(Refusal::Short);
     }
     let end = dem::totals(
         mechanisms,
@@ -74,9 +67,9 @@ pub fn check_tables(
         component_observables,
     );
     if entries.len() < end.entry {
-        return Checked::Refused(Refusal::Short);
+        return Err(Refusal::Short);
     }
-    Checked::Accepted
+    Ok(())
 }
 
 // Each mechanism of tables that hold them, in order. Long for its parameters, one a line.
@@ -99,8 +92,7 @@ pub fn check_mechanisms(
         component: 0,
         entry: 0,
     };
-    let mut i = 0;
-    while i < mechanisms {
+    for i in 0..mechanisms {
         let h = dem::head(
             probability,
             detector_counts,
@@ -108,7 +100,7 @@ pub fn check_mechanisms(
             component_counts,
             i,
         );
-        let checked = mechanism_check::check_mechanism(
+        mechanism_check::check_mechanism(
             detectors,
             observables,
             i,
@@ -117,17 +109,14 @@ pub fn check_mechanisms(
             component_detectors,
             component_observables,
             entries,
-        );
-        if let Checked::Refused(r) = checked {
-            return Checked::Refused(r);
-        }
+        )?;
         place = dem::past(h, place, component_detectors, component_observables);
-        i += 1;
     }
-    Checked::Accepted
+    Ok(())
 }
 
 // The limits (1), the tables (2), then each mechanism in order. Long for its parameters, one a line.
+#[tactic(auto, using(codes::proofs::Checks::counts_within, codes::proofs::Checks::unless_accepted))]
 pub fn check_model(
     detectors: usize,
     observables: usize,
@@ -142,11 +131,8 @@ pub fn check_model(
 ) -> Checked
     ensures { result ≡ check_all detectors observables mechanisms (tables probability.now detector_counts.now observable_counts.now component_counts.now component_detectors.now component_observables.now entries.now) }
 {
-    let counts = codes::check_counts(detectors, observables, mechanisms);
-    if let Checked::Refused(r) = counts {
-        return Checked::Refused(r);
-    }
-    let held = check_tables(
+    codes::check_counts(detectors, observables, mechanisms)?;
+    check_tables(
         mechanisms,
         probability,
         detector_counts,
@@ -155,10 +141,7 @@ pub fn check_model(
         component_detectors,
         component_observables,
         entries,
-    );
-    if let Checked::Refused(r) = held {
-        return Checked::Refused(r);
-    }
+    )?;
     check_mechanisms(
         detectors,
         observables,

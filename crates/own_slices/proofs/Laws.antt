@@ -7,6 +7,7 @@ use lib.Ieee.{Float}
 use lib.ListN.{length}
 use Rattle.steps.specs.Call.{graph_of}
 use Rattle.found.proofs.Accepted.{accepted_weights}
+use Rattle.adjacency.specs.declared.Neighbor.{Neighbor}
 use Rattle.adjacency.specs.Pairs.{Tabled, AdjacentParts}
 use Rattle.lent_graph.specs.Call.{lent_of}
 use Rattle.lent_graph.specs.Accepts.{Accepts}
@@ -14,7 +15,7 @@ use Rattle.shot.specs.Longer.{Longer}
 
 module _ {d o n : ℕ} {u v : List ℕ} {weight : List Float} {obs : List ℕ} {own : Bool} {rows : List ℕ} {shots width : ℕ} (a : Accepts (lent_of d o n u v weight obs) own rows shots width) where
   -- what the edges at each detector are worked out from
-  pub to_tabulate : (off : List ℕ) (adj : List (List ℕ)) → d + 1 ≤ length off → 2 * n ≤ length adj → Tabled d n u v off adj
+  pub to_tabulate : (off : List ℕ) (adj : List Neighbor) → d + 1 ≤ length off → 2 * n ≤ length adj → Tabled d n u v off adj
   unfolding graph_of
   to_tabulate off adj p q =
       let k = a.ends in
@@ -28,7 +29,7 @@ module _ {d o n : ℕ} {u v : List ℕ} {weight : List Float} {obs : List ℕ} {
       }
 
   -- with them, what a shot asks
-  pub longer : (off : List ℕ) (adj : List (List ℕ)) → d + 1 ≤ length off → AdjacentParts d n u v off adj → Longer d o n u v weight obs off adj
+  pub longer : (off : List ℕ) (adj : List Neighbor) → d + 1 ≤ length off → AdjacentParts d n u v off adj → Longer d o n u v weight obs off adj
   longer off adj p t = record {
     ends = a.ends;
     fits = accepted_weights (graph_of d o n u v weight obs) a.graph;

@@ -6,17 +6,11 @@ ghost use Rattle.own_slices.specs.Long.{slices_long};
 
 use scratch::Lengths;
 
-// Whether a row of w words for each shot fits, whatever the counts are: no product is made.
+// Whether a row of w words for each shot fits, whatever the counts are: a product that passes 2^64 fits no slice.
 fn rows_fit(shots: usize, w: usize, len: usize) -> bool
     ensures { result ≡ leb (shots * w) len }
 {
-    if w == 0 {
-        return true;
-    }
-    if len / w < shots {
-        return false;
-    }
-    true
+    shots.checked_mul(w).is_some_and(|n| n <= len)
 }
 
 // 2, of the call's own slices by their lengths.
@@ -31,10 +25,7 @@ pub fn own_long(
 ) -> bool
     ensures { result ≡ slices_long detectors observables edges shots out list have }
 {
-    let mut long = scratch::long(detectors, edges, have);
-    long = scratch::fits(detectors, list, long);
-    if !rows_fit(shots, bits::words(observables), out) {
-        return false;
-    }
-    long
+    rows_fit(shots, bits::words(observables), out)
+        && detectors <= list
+        && scratch::long(detectors, edges, have)
 }

@@ -1,6 +1,7 @@
 -- The checks of packed shots, one shot after another.
+use Rattle.std.specs.Prelude.{Ok, Err}
 use Prim.Native.Nat.{ℕ, ◌+◌, ◌-◌, ◌*◌, ◌/◌, ◌%◌, ◌^◌, ◌≤◌, ◌<◌}
-use native.Mathlib.Nat.{mul-zero, mul-le-mul_right, suc-mul, div-lt_iff_lt-mul, div-add-mod', pos_of_ne-zero}
+use native.Mathlib.Nat.{mul-le-mul_right, suc-mul}
 use native.Mathlib.Numerals.{add-one, add-one-le}
 use native.Mathlib.Omega.{arith}
 use mathlib.Core.Path.{◌≡◌, refl, sym, ap, ◌∙◌}
@@ -8,45 +9,20 @@ use mathlib.Core.List.{List, [], ◌∷◌}
 use lib.Dec.{leb, eqb}
 use lib.ListN.{length, get_or, drop, length-take, length-drop}
 use lib.Seq.{length-take-le, get_or-take, get_or-drop}
-use borrow.Author.Tests.{eq-eqb, ne_eqb, eqb-true, le-leb, lt-leb}
-use Rattle.lists.specs.Lists.{from, below}
+use borrow.Author.Tests.{eqb-true, le-leb, lt-leb}
+use Rattle.lists.specs.Lists.{from}
 use Rattle.lists.proofs.Truth.{case-of}
 use Rattle.lists.proofs.Ranges.{left_one}
 use Rattle.bits.specs.Rows.{words, is_clear}
 use Rattle.bits.proofs.Rows.{clear_whole, clear_last}
-use Rattle.codes.specs.declared.Refusal.TheVariants.{Length, Padding}
-use Rattle.codes.specs.declared.Checked.{Checked}
-use Rattle.codes.specs.declared.Checked.TheVariants.{Accepted, Refused}
-use Rattle.codes.specs.Order.{and_then}
-use Rattle.codes.specs.Limits.{check_shots}
-use Rattle.packed.specs.Packed.{row_at, check_length, check_padding, check_packed, packed_by, packed_of}
+use Rattle.codes.specs.declared.Refusal.TheVariants.{Padding}
+use Rattle.packed.specs.Packed.{row_at, check_length, check_padding}
 
 -- ---- the length
 
-pub accepts_length : (rows : List ℕ) (shots width m : ℕ) → m ≡ words width → length rows ≡ shots * m → Accepted ≡ check_length rows shots width
+pub length_accepted : (rows : List ℕ) (shots width : ℕ) → Ok tt ≡ check_length rows shots width → length rows ≡ shots * words width
 unfolding check_length
-accepts_length rows shots width m e h = rw (eq-eqb (length rows) (shots * words width) (h ∙ ap (λ (k : ℕ). shots * k) e))
-
-pub refuses_length : (rows : List ℕ) (shots width m : ℕ) → m ≡ words width → (length rows ≡ shots * m → ⊥) → Refused Length ≡ check_length rows shots width
-unfolding check_length
-refuses_length rows shots width m e f = rw (ne_eqb (length rows) (shots * words width) (λ q. f (q ∙ ap (λ (k : ℕ). shots * k) (sym e))))
-
-pub length_accepted : (rows : List ℕ) (shots width : ℕ) → Accepted ≡ check_length rows shots width → length rows ≡ shots * words width
-unfolding check_length
-length_accepted rows shots width h = case-of (eqb (length rows) (shots * words width)) (λ t. eqb-true (length rows) (shots * words width) t) (λ f. absurd (let g = rw f at h in let z : ◌≡◌ {A = ℕ} 0 1 = cc in omega arith))
-
--- the product and the quotient
-module _ (len shots m : ℕ) where
-  pub product_none : m ≡ 0 → shots * m ≡ 0
-  product_none z = ap (λ (k : ℕ). shots * k) z ∙ mul-zero shots
-
-  -- where the quotient is too small, so is the length
-  pub too_short : (m ≡ 0 → ⊥) → len / m < shots → len < shots * m
-  too_short z h = (div-lt_iff_lt-mul (pos_of_ne-zero z)).0 h
-
-  -- and where it is not, the product does not pass the length
-  pub has_room : shots ≤ len / m → shots * m ≤ len
-  has_room h = let k = mul-le-mul_right m h in let q = div-add-mod' len m in omega arith
+length_accepted rows shots width h = case-of (eqb (length rows) (shots * words width)) (λ t. eqb-true (length rows) (shots * words width) t) (λ f. let g = rw f at h in cc)
 
 -- ---- the row of a shot
 
@@ -66,14 +42,14 @@ row_length rows shots m s e h =
 
 module _ (rows : List ℕ) (width : ℕ) where
   -- rows of whole words have none
-  pub padding_none : width % 64 ≡ 0 → (ss : List ℕ) → check_padding width rows ss ≡ Accepted
+  pub padding_none : width % 64 ≡ 0 → (ss : List ℕ) → check_padding width rows ss ≡ Ok tt
   unfolding check_padding words
   padding_none z [] = refl
   padding_none z (s ∷ ss) =
       let k = length-take (words width) (drop (s * words width) rows) in
       rw (clear_whole width (row_at (words width) rows s) (omega arith), padding_none z ss)
 
-  pub padding_end : (shots s : ℕ) → shots ≤ s → check_padding width rows (from (shots - s) s) ≡ Accepted
+  pub padding_end : (shots s : ℕ) → shots ≤ s → check_padding width rows (from (shots - s) s) ≡ Ok tt
   unfolding check_padding from
   padding_end shots s h =
       let e : shots - s ≡ 0 = omega arith in
@@ -101,7 +77,7 @@ module _ (rows : List ℕ) (shots width m s : ℕ) (long : length rows ≡ shots
         ∙ ap (λ (x : ℕ). leb x (2 ^ (width % 64) - 1)) at
 
     -- above the mask: the answer is this shot
-    pub padding_set : 2 ^ (width % 64) - 1 < get_or rows (s * m + (m - 1)) 0 → check_padding width rows (from (shots - s) s) ≡ Refused (Padding s)
+    pub padding_set : 2 ^ (width % 64) - 1 < get_or rows (s * m + (m - 1)) 0 → Err (Padding s) ≡ check_padding width rows (from (shots - s) s)
     unfolding check_padding
     padding_set l = rw (left_one shots s h, row_padding ∙ lt-leb (get_or rows (s * m + (m - 1)) 0) (2 ^ (width % 64) - 1) l)
 
@@ -109,10 +85,3 @@ module _ (rows : List ℕ) (shots width m s : ℕ) (long : length rows ≡ shots
     pub padding_clear : get_or rows (s * m + (m - 1)) 0 ≤ 2 ^ (width % 64) - 1 → check_padding width rows (from (shots - (s + 1)) (s + 1)) ≡ check_padding width rows (from (shots - s) s)
     unfolding check_padding
     padding_clear l = rw (left_one shots s h, row_padding ∙ le-leb (get_or rows (s * m + (m - 1)) 0) (2 ^ (width % 64) - 1) l)
-
--- ---- the three checks
-
-pub packed_by_lem : (rows : List ℕ) (shots width m : ℕ) (few long clear : Checked) → m ≡ words width → few ≡ check_shots shots → long ≡ check_length rows shots width
-    → clear ≡ check_padding width rows (below shots) → packed_by m (and_then few (and_then long clear)) ≡ packed_of rows shots width
-unfolding packed_of check_packed
-packed_by_lem rows shots width m few long clear e p q r = rw (e, p, q, r)

@@ -1,11 +1,9 @@
 -- What holds of packed shots. Each statement is proved in proofs/ under the same name in small letters.
-use Rattle.std.specs.Prelude.{ℕ, ◌+◌, ◌*◌, ◌≤◌, ◌<◌, ◌≡◌, true, false, List, [], ◌∷◌, length}
+use Rattle.std.specs.Prelude.{Ok, Err, ℕ, ◌+◌, ◌*◌, ◌≤◌, ◌<◌, ◌≡◌, true, false, List, [], ◌∷◌, length}
 use Rattle.bits.specs.Rows.{words, is_clear}
 use Rattle.codes.specs.declared.Refusal.{Refusal}
 use Rattle.codes.specs.declared.Refusal.TheVariants.{Limit, Length, Padding}
-use Rattle.codes.specs.declared.Checked.TheVariants.{Accepted, Refused}
 use Rattle.codes.specs.Limits.{max_shots}
-use Rattle.packed.specs.declared.Packed.TheVariants as packed
 use Rattle.packed.specs.Packed.{row_at, check_packed, packed_of}
 
 -- a batch that may be read: its shots are few enough, its rows have a word per 64 bits begun, and no padding is set
@@ -16,19 +14,19 @@ pub record Sound (rows : List ℕ) (shots width : ℕ) : Type 0 where
 
 -- what is accepted is sound
 abbrev pub AcceptedSound : Type 0
-AcceptedSound = (rows : List ℕ) (shots width : ℕ) → check_packed rows shots width ≡ Accepted → Sound rows shots width
+AcceptedSound = (rows : List ℕ) (shots width : ℕ) → check_packed rows shots width ≡ Ok tt → Sound rows shots width
 
 -- what is sound is accepted
 abbrev pub SoundAccepted : Type 0
-SoundAccepted = (rows : List ℕ) (shots width : ℕ) → Sound rows shots width → check_packed rows shots width ≡ Accepted
+SoundAccepted = (rows : List ℕ) (shots width : ℕ) → Sound rows shots width → check_packed rows shots width ≡ Ok tt
 
 -- rows are what the check accepts, with a word per 64 bits begun
 abbrev pub RowsAccepted : Type 0
-RowsAccepted = (rows : List ℕ) (shots width m : ℕ) → packed_of rows shots width ≡ packed.Rows m → (check_packed rows shots width ≡ Accepted) × (m ≡ words width)
+RowsAccepted = (rows : List ℕ) (shots width m : ℕ) → packed_of rows shots width ≡ Ok m → (check_packed rows shots width ≡ Ok tt) × (m ≡ words width)
 
 -- and a refusal is the check's
 abbrev pub RefusedSame : Type 0
-RefusedSame = (rows : List ℕ) (shots width : ℕ) (r : Refusal) → packed_of rows shots width ≡ packed.Refused r → check_packed rows shots width ≡ Refused r
+RefusedSame = (rows : List ℕ) (shots width : ℕ) (r : Refusal) → packed_of rows shots width ≡ Err r → check_packed rows shots width ≡ Err r
 
 -- of a sound batch every shot's row ends within the data
 abbrev pub RowEnds : Type 0
@@ -46,16 +44,16 @@ pub record FirstPadded (rows : List ℕ) (shots width s : ℕ) : Type 0 where
 
 -- 9 names the lowest shot whose padding is set
 abbrev pub PaddingFirst : Type 0
-PaddingFirst = (rows : List ℕ) (shots width s : ℕ) → check_packed rows shots width ≡ Refused (Padding s) → FirstPadded rows shots width s
+PaddingFirst = (rows : List ℕ) (shots width s : ℕ) → check_packed rows shots width ≡ Err (Padding s) → FirstPadded rows shots width s
 
 -- 8 where the length is not the product over whole numbers
 abbrev pub LengthWrong : Type 0
-LengthWrong = (rows : List ℕ) (shots width : ℕ) → check_packed rows shots width ≡ Refused Length → length rows ≡ shots * words width → ⊥
+LengthWrong = (rows : List ℕ) (shots width : ℕ) → check_packed rows shots width ≡ Err Length → length rows ≡ shots * words width → ⊥
 
 -- 1 where there are too many shots
 abbrev pub LimitPassed : Type 0
-LimitPassed = (rows : List ℕ) (shots width : ℕ) → check_packed rows shots width ≡ Refused Limit → max_shots < shots
+LimitPassed = (rows : List ℕ) (shots width : ℕ) → check_packed rows shots width ≡ Err Limit → max_shots < shots
 
 -- D = 2 with word 4 gives 9
 abbrev pub WordFour : Type 0
-WordFour = check_packed (4 ∷ []) 1 2 ≡ Refused (Padding 0)
+WordFour = check_packed (4 ∷ []) 1 2 ≡ Err (Padding 0)

@@ -6,6 +6,7 @@ ghost use Rattle.dem.specs.Decompose.{plus};
 ghost use Rattle.probability.specs.Probability.{raised_at, raised_all};
 
 // q·(1-p) + p·(1-q), each operation rounded once.
+#[tactic(auto, unfolding(dem::specs::Decompose::plus))]
 pub fn add_probability(q: f64, p: f64) -> f64
     ensures { result ≡ plus q p }
 {
@@ -13,6 +14,7 @@ pub fn add_probability(q: f64, p: f64) -> f64
 }
 
 // p is added to entry k.
+#[tactic(auto, unfolding(crate::specs::Probability::raised_at))]
 pub fn raise(probability: &mut [f64], k: usize, p: f64)
     requires { k < length probability.old }
     ensures { probability.new ≡ raised_at p k probability.old }
@@ -21,14 +23,12 @@ pub fn raise(probability: &mut [f64], k: usize, p: f64)
 }
 
 // And to each of a list of entries, in order.
+#[tactic(auto, using(crate::proofs::Raising::raise_turn, crate::proofs::Raising::raise_end))]
 pub fn raise_all(members: &[u32], p: f64, probability: &mut [f64])
     requires { (i : ℕ) → i < length members.now → get_or members.now i 0 < length probability.old }
     ensures { probability.new ≡ raised_all p members.now probability.old }
 {
-    let mut i = 0;
-    while i < members.len() {
-        let k = members[i] as usize;
-        i += 1;
-        raise(probability, k, p);
+    for k in members {
+        raise(probability, *k as usize, p);
     }
 }

@@ -1,4 +1,5 @@
 -- What an accepted check of the rate leaves true: the check of a batch accepts, and the packing of the true observables.
+use Rattle.std.specs.Prelude.{Ok}
 use Prim.Native.Nat.{ℕ}
 use mathlib.Core.Path.{◌≡◌}
 use mathlib.Core.List.{List}
@@ -6,9 +7,7 @@ use mathlib.Core.Bool.{Bool, not, ◌&&◌}
 use lib.Dec.{eqb}
 use Rattle.lists.specs.Lists.{below}
 use Rattle.codes.specs.declared.Refusal.TheVariants.{Short, Width}
-use Rattle.codes.specs.declared.Checked.{Checked}
-use Rattle.codes.specs.declared.Checked.TheVariants.{Accepted}
-use Rattle.codes.specs.Order.{refuse_if, and_then}
+use Rattle.codes.specs.Order.{Checked, refuse_if, and_then}
 use Rattle.codes.specs.Limits.{check_counts, check_shots}
 use Rattle.packed.specs.Packed.{check_packed}
 use Rattle.steps.specs.Call.{check_edges}
@@ -17,17 +16,17 @@ use Rattle.lent_graph.specs.Call.{Lent, graph_in, tables_in, check_rows, check_c
 use Rattle.rate.specs.Checks.{check_both, check_rate}
 
 -- six checks that accept
-accept_all : (a b c d e f : Checked) → a ≡ Accepted → b ≡ Accepted → c ≡ Accepted → d ≡ Accepted → e ≡ Accepted → f ≡ Accepted → and_then a (and_then b (and_then c (and_then d (and_then e f)))) ≡ Accepted
+accept_all : (a b c d e f : Checked) → a ≡ Ok tt → b ≡ Ok tt → c ≡ Ok tt → d ≡ Ok tt → e ≡ Ok tt → f ≡ Ok tt → and_then a (and_then b (and_then c (and_then d (and_then e f)))) ≡ Ok tt
 accept_all a b c d e f p q r s t u = rw (p, q, r, s, t, u)
 
 -- what an accepted call has
 pub record Passed (l : Lent) (long : Bool) (rows : List ℕ) (shots width : ℕ) (truth : List ℕ) (true_shots true_width : ℕ) : Type 0 where
   -- a batch of the same shots is accepted
-  pub call : check_call l long rows shots width ≡ Accepted
-  pub packing : check_packed truth true_shots true_width ≡ Accepted
+  pub call : check_call l long rows shots width ≡ Ok tt
+  pub packing : check_packed truth true_shots true_width ≡ Ok tt
 
 module _ (l : Lent) (long : Bool) (rows : List ℕ) (shots width : ℕ) (truth : List ℕ) (true_shots true_width : ℕ) where
-  pub rate_accepted : check_rate l long rows shots width truth true_shots true_width ≡ Accepted → Passed l long rows shots width truth true_shots true_width
+  pub rate_accepted : check_rate l long rows shots width truth true_shots true_width ≡ Ok tt → Passed l long rows shots width truth true_shots true_width
   unfolding check_rate check_both check_call check_rows
   rate_accepted h =
       let last = refuse_if (not (eqb width l.detectors)) Width in

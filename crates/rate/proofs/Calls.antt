@@ -1,4 +1,7 @@
 -- What the call answers and leaves, by its checks, by the shots decoded and by the failures counted.
+use Rattle.std.specs.Prelude.{Ok, Err}
+use Rattle.failures.specs.declared.ErrorRate.{ErrorRate}
+use Rattle.failures.specs.declared.ErrorRate.TheVariants as error_rate
 use Prim.Native.Nat.{ℕ, ◌<◌}
 use native.Mathlib.Omega.{arith}
 use mathlib.Core.Path.{◌≡◌, refl, sym, ap, ◌∙◌}
@@ -11,9 +14,7 @@ use Rattle.lists.proofs.Members.{member_below}
 use Rattle.lists.proofs.Filters.{filter_in}
 use Rattle.bits.specs.Rows.{words, is_clear}
 use Rattle.codes.specs.declared.Refusal.{Refusal}
-use Rattle.codes.specs.declared.Checked.{Checked}
-use Rattle.codes.specs.declared.Checked.TheVariants.{Accepted, Refused}
-use Rattle.codes.specs.Order.{and_then}
+use Rattle.codes.specs.Order.{Checked, and_then}
 use Rattle.packed.specs.Packed.{row_at}
 use Rattle.packed.specs.Laws.{Sound}
 use Rattle.packed.proofs.Laws.{accepted_sound}
@@ -24,8 +25,6 @@ use Rattle.batch_rows.proofs.Laws.{row_alone}
 use Rattle.batch.specs.Batch as batch
 use Rattle.batch.specs.Batch.{own_long}
 use Rattle.batch.proofs.Calls.{accepts, rows_long}
-use Rattle.failures.specs.declared.ErrorRate.{ErrorRate}
-use Rattle.failures.specs.declared.ErrorRate.TheVariants as answer
 use Rattle.failures.specs.Failures.{differs, failures_in, rate_of, sheet_of, call_row, answer_of, Comparable}
 use Rattle.rate.specs.Checks.{check_rate}
 use Rattle.rate.proofs.Accepts.{Passed, rate_accepted}
@@ -33,14 +32,14 @@ use Rattle.rate.specs.Rate.{Compared, graph_of_call, checks, shape, failed, fail
 use Rattle.rate.proofs.Clear.{left_clear}
 
 -- where decoding refuses, no rate is looked at
-same_answer : (decoded then : Checked) {x y : Float} → (decoded ≡ Accepted → x ≡ y) → answer_of (and_then decoded then) x ≡ answer_of (and_then decoded then) y
-same_answer Accepted then f = ap (answer_of then) (f refl)
-same_answer (Refused r) then f = refl
+same_answer : (decoded then : Checked) {x y : Float} → (decoded ≡ Ok tt → x ≡ y) → answer_of (and_then decoded then) x ≡ answer_of (and_then decoded then) y
+same_answer (Ok tt) then f = ap (answer_of then) (f refl)
+same_answer (Err r) then f = refl
 
 -- the answer on the sheet
 on_sheet : (c : Checked) (rate : Float) → sheet_of (answer_of c rate) ≡ call_row c rate
-on_sheet (Refused r) rate = refl
-on_sheet Accepted rate = refl
+on_sheet (Err r) rate = refl
+on_sheet (Ok tt) rate = refl
 
 module _ (c : Compared) where
   abbrev O : ℕ
@@ -55,22 +54,22 @@ module _ (c : Compared) where
   unfolding checks
   checks_by long r p q = q ∙ ap (λ (b : Bool). check_rate c.batch.graph b c.batch.rows c.batch.shots c.batch.width c.truth c.true_shots c.true_width) p
 
-  pub refused : {r : Refusal} → Refused r ≡ checks c → Rates c (answer.Refused r) c.batch.out
+  pub refused : {r : Refusal} → Err r ≡ checks c → Rates c (error_rate.Refused r) c.batch.out
   refused e = record { sheet = rw (sym e) refl; answers = rw (sym e) refl; rows = rw (sym e) refl }
 
-  module _ (a : Accepted ≡ checks c) where
+  module _ (a : (Ok tt) ≡ checks c) where
     pub passed : Passed c.batch.graph (own_long c.batch) c.batch.rows c.batch.shots c.batch.width c.truth c.true_shots c.true_width
     unfolding checks
     passed = rate_accepted c.batch.graph (own_long c.batch) c.batch.rows c.batch.shots c.batch.width c.truth c.true_shots c.true_width (sym a)
 
     -- a batch of the same shots is accepted
-    pub batch_accepted : Accepted ≡ batch.checks c.batch
+    pub batch_accepted : (Ok tt) ≡ batch.checks c.batch
     unfolding batch.checks
     batch_accepted = sym passed.call
 
     -- what decoding came to, and the rows that it left
     module _ {decoded : Checked} {out : List ℕ} (k : (decoded ≡ check_shots_of (graph_of_call c) c.batch.rows (below c.batch.shots)) × (out ≡ rows_of (graph_of_call c) c.batch.rows (below c.batch.shots) c.batch.out)) where
-      done : decoded ≡ Accepted → (s : ℕ) → s < Shots → row_at (words O) out s ≡ row_for (graph_of_call c) c.batch.rows s
+      done : decoded ≡ Ok tt → (s : ℕ) → s < Shots → row_at (words O) out s ≡ row_for (graph_of_call c) c.batch.rows s
       unfolding graph_of
       done d s l = ap (λ (t : List ℕ). row_at (words O) t s) k.1 ∙ (row_alone (graph_of_call c) c.batch.rows Shots c.batch.out (rows_long c.batch batch_accepted) (sym k.0 ∙ d)).row s l
 
@@ -78,7 +77,7 @@ module _ (c : Compared) where
       unfolding graph_of
       done_clear s = left_clear (graph_of_call c) (accepts c.batch batch_accepted).graph (shot_at (graph_of_call c) c.batch.rows s)
 
-      pub comparable : length out ≡ length c.batch.out → decoded ≡ Accepted → c.true_shots ≡ c.batch.shots → c.true_width ≡ c.batch.graph.observables → Comparable c.batch.graph.observables c.batch.shots out c.truth
+      pub comparable : length out ≡ length c.batch.out → decoded ≡ Ok tt → c.true_shots ≡ c.batch.shots → c.true_width ≡ c.batch.graph.observables → Comparable c.batch.graph.observables c.batch.shots out c.truth
       comparable e d p q =
           let t : Sound c.truth Shots O = rw (p, q) at (accepted_sound c.truth c.true_shots c.true_width passed.packing) in
           record {
@@ -90,7 +89,7 @@ module _ (c : Compared) where
             true_clear = t.clear;
           }
 
-      same_failures : decoded ≡ Accepted → failures_in O Shots out c.truth ≡ failures c
+      same_failures : decoded ≡ Ok tt → failures_in O Shots out c.truth ≡ failures c
       unfolding failures_in failures
       same_failures d = ap length (filter_in (λ s. differs O (row_at (words O) out s) (row_at (words O) c.truth s)) (failed c) (below Shots)
           (λ s m. ap (λ (x : List ℕ). differs O x (row_at (words O) c.truth s)) (done d s (member_below s Shots m))))

@@ -1,4 +1,3 @@
 pub mod Accepts
 pub mod Calls
-pub mod Checks
 pub mod Clear

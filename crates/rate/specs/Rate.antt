@@ -1,17 +1,16 @@
 -- The logical error rate of a batch: docs/RULES.md, "The rate" and "Refusals".
+use Rattle.failures.specs.declared.ErrorRate.{ErrorRate}
 use Rattle.std.specs.Prelude.{ℕ, ◌≡◌, List, Bool}
 use Rattle.std.proofs.Math.ListN.{length}
 use Rattle.lists.specs.Lists.{below, filter}
 use Rattle.bits.specs.Rows.{words}
-use Rattle.codes.specs.declared.Checked.{Checked}
-use Rattle.codes.specs.Order.{and_then}
+use Rattle.codes.specs.Order.{Checked, and_then}
 use Rattle.packed.specs.Packed.{row_at}
 use Rattle.steps.specs.Graph.{Graph}
 use Rattle.lent_graph.specs.Call.{graph_in}
 use Rattle.batch_rows.specs.Row.{row_for}
 use Rattle.batch_rows.specs.Rows.{check_shots_of, rows_of}
 use Rattle.batch.specs.Batch.{Handed, own_long, out_after}
-use Rattle.failures.specs.declared.ErrorRate.{ErrorRate}
 use Rattle.failures.specs.Failures.{differs, rate_of, shape_of, sheet_of, call_row, answer_of}
 use Rattle.rate.specs.Checks.{check_rate}
 

@@ -8,12 +8,14 @@ ghost use Rattle.scratch.specs.Scratch.{lengths_of};
 ghost use Rattle.batch.specs.Batch.{handed};
 ghost use Rattle.rate.specs.Rate.{compared, Rates};
 
+use adjacency::Neighbor;
+use cells::{Flags, Link, Node, Stack};
 use codes::{Checked, Refusal};
 use failures::ErrorRate;
-use packed::Packed;
 use scratch::Lengths;
 
 // 8, 9 of the shots, 8, 9 of the true observables, then 10.
+#[tactic(auto, unfolding(crate::specs::Checks::check_both, packed::specs::Packed::packed_of))]
 fn check_both(
     detectors: usize,
     rows: &[u64],
@@ -25,21 +27,16 @@ fn check_both(
 ) -> Checked
     ensures { result ≡ check_both detectors rows.now shots width truth.now true_shots true_width }
 {
-    let packed = packed::try_from_shot_major(rows, shots, width);
-    if let Packed::Refused(r) = packed {
-        return Checked::Refused(r);
-    }
-    let actual = packed::try_from_shot_major(truth, true_shots, true_width);
-    if let Packed::Refused(r) = actual {
-        return Checked::Refused(r);
-    }
+    packed::try_from_shot_major(rows, shots, width)?;
+    packed::try_from_shot_major(truth, true_shots, true_width)?;
     if width != detectors {
-        return Checked::Refused(Refusal::Width);
+        return Err(Refusal::Width);
     }
-    Checked::Accepted
+    Ok(())
 }
 
 // 1, 2 (the tables, and whether the call's own slices are long enough), the graph, then both packings and the width. Long for its parameters, one a line.
+#[tactic(auto, unfolding(crate::specs::Checks::check_rate), using(codes::proofs::Checks::counts_within, lent_graph::proofs::Laws::long))]
 pub fn check_rate(
     detectors: usize,
     observables: usize,
@@ -58,25 +55,15 @@ pub fn check_rate(
 ) -> Checked
     ensures { result ≡ check_rate (lent_of detectors observables edges edge_u.now edge_v.now edge_weight.now edge_obs.now) long rows.now shots width truth.now true_shots true_width }
 {
-    let counts = codes::check_counts(detectors, observables, edges);
-    if let Checked::Refused(r) = counts {
-        return Checked::Refused(r);
+    codes::check_counts(detectors, observables, edges)?;
+    codes::check_shots(shots)?;
+    codes::check_shots(true_shots)?;
+    if !lent_graph::tables_long(observables, edges, edge_u, edge_v, edge_weight, edge_obs)
+        || !long
+    {
+        return Err(Refusal::Short);
     }
-    let few = codes::check_shots(shots);
-    if let Checked::Refused(r) = few {
-        return Checked::Refused(r);
-    }
-    let true_few = codes::check_shots(true_shots);
-    if let Checked::Refused(r) = true_few {
-        return Checked::Refused(r);
-    }
-    if !lent_graph::tables_long(observables, edges, edge_u, edge_v, edge_weight, edge_obs) {
-        return Checked::Refused(Refusal::Short);
-    }
-    if !long {
-        return Checked::Refused(Refusal::Short);
-    }
-    let graph = lent_graph::check_edges(
+    lent_graph::check_edges(
         detectors,
         observables,
         edges,
@@ -84,10 +71,7 @@ pub fn check_rate(
         edge_v,
         edge_weight,
         edge_obs,
-    );
-    if let Checked::Refused(r) = graph {
-        return Checked::Refused(r);
-    }
+    )?;
     check_both(detectors, rows, shots, width, truth, true_shots, true_width)
 }
 
@@ -99,11 +83,11 @@ pub fn logical_error_rate(
     out: &mut [u64],
     list: &mut [u32],
     adj_offsets: &mut [u32],
-    adj: &mut [[u32; 2]],
-    tree: &mut [[u32; 2]],
-    flags: &mut [[bool; 8]],
-    stacks: &mut [[u32; 6]],
-    links: &mut [[u32; 4]],
+    adj: &mut [Neighbor],
+    tree: &mut [Node],
+    flags: &mut [Flags],
+    stacks: &mut [Stack],
+    links: &mut [Link],
     growth: &mut [f64],
     sat: &mut [bool],
     edge_u: &[u32],
@@ -154,7 +138,8 @@ pub fn logical_error_rate(
         true_shots,
         true_width,
     );
-    if let Checked::Refused(r) = checked {
+    // kept: the answer is no Result (docs/DECISIONS.md, "Forms that 01 names")
+    if let Err(r) = checked {
         return ErrorRate::Refused(r);
     }
     adjacency::tabulate(detectors, edges, edge_u, edge_v, adj_offsets, adj);

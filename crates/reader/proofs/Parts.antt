@@ -1,37 +1,24 @@
 -- The four tables by their lengths, and the words of a shot by their two parts.
 use Prim.Native.Nat.{ℕ, ◌-◌, ◌≤◌, min}
 use native.Mathlib.Omega.{arith}
-use mathlib.Core.Path.{◌≡◌, refl, sym, ap, ◌∙◌}
-use mathlib.Core.List.{List, [], ◌++◌, append-nil}
-use mathlib.Core.Bool.{Bool, true, false, ◌&&◌}
+use mathlib.Core.Path.{◌≡◌, sym, ap, ◌∙◌}
+use mathlib.Core.List.{List, ◌++◌, append-nil}
+use mathlib.Core.Bool.{Bool, true}
 use lib.ListN.{length, take, drop, length-take, length-drop}
 use lib.Seq.{take_at, drop_at, take_all, drop-length, length-take-le}
-use lib.Dec.{leb}
-use borrow.Author.Tests.{leb-true, leb-false, le-leb, lt-leb}
 use borrow.Rule.Slice.PartMut.{mid_of, put_mid, post_of, Post-is, take_put}
-use Rattle.lists.proofs.Truth.{case-of}
-use Rattle.columns.proofs.Columns.{column_length}
-use Rattle.reader.specs.Columns.{Columns, columns_of, long_enough, roomy}
+use Rattle.counts.proofs.Rows.{column_length}
+use Rattle.reader.specs.Columns.{columns_of, long_enough, roomy}
 use Rattle.reader.proofs.Stored.{room_of_lem}
 
 -- ---- lengths
 
--- six words are four and two
-pub shot_places : (k : ℕ) → leb 6 k ≡ (leb 4 (min 4 k) && leb 2 (k - 4))
-shot_places k =
-    case-of (leb 6 k)
-    (λ (t : leb 6 k ≡ true). let h = leb-true 6 k t in rw (t, le-leb 4 (min 4 k) (omega arith), le-leb 2 (k - 4) (omega arith)) refl)
-    (λ (f : leb 6 k ≡ false). let h = leb-false 6 k f in rw (f, lt-leb 2 (k - 4) (omega arith)) (none (leb 4 (min 4 k))))
-  where
-    none : (b : Bool) → false ≡ (b && false)
-    none true = refl
-    none false = refl
-
 module _ (bs : List ℕ) (rows : List (List ℕ)) (es ws : List ℕ) where
-  pub roomy_by : (r b : Bool) → r ≡ long_enough (length bs) (length rows) (length rows) (length rows) (length rows) (length rows) (length es) (min 4 (length ws)) (length ws - 4) → r ≡ b
+  -- what the lengths say
+  pub roomy_by : (b : Bool) → b ≡ long_enough (length bs) (length rows) (length rows) (length rows) (length rows) (length rows) (length es) (min 4 (length ws)) (length ws - 4)
       → roomy (columns_of bs rows es ws) ≡ b
-  roomy_by r b e q =
-      rw (column_length 0 0 rows, column_length 0 1 rows, column_length 0 2 rows, column_length 0 3 rows, column_length 0 4 rows, length-take 4 ws, length-drop 4 ws) (sym e ∙ q)
+  roomy_by b e =
+      rw (column_length 0 0 rows, column_length 0 1 rows, column_length 0 2 rows, column_length 0 3 rows, column_length 0 4 rows, length-take 4 ws, length-drop 4 ws) (sym e)
 
   pub record Places : Type 0 where
     pub bits : 1024 ≤ length bs

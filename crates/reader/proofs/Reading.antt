@@ -1,27 +1,26 @@
 -- A line's answer and what it stores are those of the definition.
-use Prim.Native.Nat.{ℕ, ◌+◌, ◌-◌, ◌*◌, ◌<◌, ◌≤◌}
+use Rattle.std.specs.Prelude.{Option, None, Some}
+use Rattle.std.specs.Prelude.{Result, Ok, Err}
+use Prim.Native.Nat.{ℕ, ◌+◌, ◌*◌, ◌<◌, ◌≤◌}
 use native.Mathlib.Omega.{arith}
 use mathlib.Core.Path.{◌≡◌, refl, sym, ap, ap₂, ◌∙◌}
 use mathlib.Core.List.{List, [], ◌∷◌, ◌++◌}
 use mathlib.Core.Bool.{Bool, true, false, cond}
-use mathlib.Core.Option.{Option, none, some}
 use lib.ListN.{length, get_or, take, drop}
 use lib.Seq.{drop-drop}
 use lib.Dec.{eqb}
-use borrow.Author.Tests.{eqb-true, eqb-false}
-use Rattle.lists.proofs.Truth.{case-of, clash, cond_case}
+use borrow.Author.Tests.{eqb-true}
+use Rattle.lists.proofs.Truth.{clash, cond_case}
 use Rattle.codes.specs.declared.Refusal.{Refusal}
 use Rattle.codes.specs.declared.Refusal.TheVariants as refusal
 use Rattle.hex_text.specs.Hex.{is_hex, bytes_of, number, numbers}
 use Rattle.hex_text.proofs.Runs.{numbers_long, numbers_add}
 use Rattle.bits.specs.Rows.{words}
 use Rattle.frames.specs.declared.State.{State}
-use Rattle.frames.specs.declared.Line.{Line}
-use Rattle.frames.specs.declared.Line.TheVariants.{Next, Refused}
 use Rattle.frames.specs.Frames.{Frame, header, mechanism, component, end, row, truth, kind_of, symptom_long, symptom_of, when, frame_of}
 use Rattle.frames.specs.Input.{Input, Read, next, refused, in_order, after, over, read_line}
 use Rattle.frames.specs.Counts.{counts_of, answer_of, count_after, over_counts, capped, frame_line, line_of}
-use Rattle.frames.proofs.FrameKinds.{frame_1, frame_2, frame_3, frame_4, frame_5, frame_6, frame_none, order_none, held_of, first_count, second_count}
+use Rattle.frames.proofs.FrameKinds.{frame_1, frame_2, frame_3, frame_4, frame_5, frame_6, frame_none, none_empty, order_none, held_of, first_count, second_count}
 use Rattle.frames.proofs.Answers.{answers, counts_after, follows, order_component}
 use Rattle.reader.specs.Columns.{Columns, columns_at, roomy, listed, answer_to, stored_frame, stored, Storable, Holds, read_by, LineRead}
 use Rattle.reader.proofs.Stored.{room_of_lem, WordsFit, store_frame}
@@ -48,8 +47,8 @@ module _ (l : List ℕ) (i : ℕ) where
 -- ---- the words of a frame
 
 abbrev Fit : Option Frame → Type 0
-Fit none = Unit
-Fit (some f) = WordsFit f
+Fit None = Unit
+Fit (Some f) = WordsFit f
 
 fit_when : (b : Bool) (f : Frame) → WordsFit f → Fit (when b f)
 fit_when true f h = h
@@ -66,37 +65,39 @@ words_fit D O l hD hO =
     cond_case Fit (eqb k 5) _ _ (λ _. fit_when (eqb (length l) (1 + 8 * words D)) (row (numbers 8 (words D) (drop 1 l))) (omega (arith, numbers_long 8 (words D) (drop 1 l)))) λ _.
     cond_case Fit (eqb k 6) _ _ (λ _. fit_when (eqb (length l) (1 + 8 * words O)) (truth (numbers 8 (words O) (drop 1 l))) (omega (arith, numbers_long 8 (words O) (drop 1 l)))) (λ _. tt)
 
--- ---- a frame that stores nothing
+-- ---- what a frame stores
 
-nothing_when : (n : State) (c : Columns) (b : Bool) (f : Frame) → stored_frame n f c ≡ c → stored n (when b f) c ≡ c
-nothing_when n c true f h = h
-nothing_when n c false f h = refl
+pub stored_when : (n : State) (b : Bool) (f : Frame) (c : Columns) → stored n (when b f) c ≡ cond b (stored_frame n f c) c
+stored_when n true f c = refl
+stored_when n false f c = refl
 
-pub stored_other : (D O : ℕ) (n : State) (l : List ℕ) (c : Columns) (k : ℕ) → kind_of l ≡ k → (k ≡ 2 → ⊥) → (k ≡ 3 → ⊥) → (k ≡ 5 → ⊥) → (k ≡ 6 → ⊥)
-    → stored n (frame_of D O l) c ≡ c
-unfolding stored_frame
-stored_other D O n l c k h n2 n3 n5 n6 =
-    case-of (eqb k 1) (λ (t : eqb k 1 ≡ true). rw (frame_1 D O l (h ∙ eqb-true k 1 t)) (nothing_when n c (eqb (length l) 5) (header (number (take 2 (drop 1 l))) (number (take 2 (drop 3 l)))) refl)) λ (n1 : eqb k 1 ≡ false).
-    case-of (eqb k 4) (λ (t : eqb k 4 ≡ true). rw (frame_4 D O l (h ∙ eqb-true k 4 t)) (nothing_when n c (eqb (length l) 1) end refl)) λ (n4 : eqb k 4 ≡ false).
-    rw (frame_none D O l k h (eqb-false k 1 n1) n2 n3 (eqb-false k 4 n4) n5 n6)
+-- 01 and 04: nothing
+module _ (D O : ℕ) (n : State) (l : List ℕ) (c : Columns) where
+  pub stored_header : kind_of l ≡ 1 → stored n (frame_of D O l) c ≡ c
+  unfolding stored_frame
+  stored_header h = rw (frame_1 D O l h, stored_when) (cond_case (λ r. r ≡ c) (eqb (length l) 5) c c (λ _. refl) (λ _. refl))
+
+  pub stored_end : kind_of l ≡ 4 → stored n (frame_of D O l) c ≡ c
+  unfolding stored_frame
+  stored_end h = rw (frame_4 D O l h, stored_when) (cond_case (λ r. r ≡ c) (eqb (length l) 1) c c (λ _. refl) (λ _. refl))
 
 -- ---- a line that is answered by numbers
 
-never_next : {A : Type 0} (x : Refusal) (t : State) → Refused x ≡ Next t → A
+never_next : {A : Type 0} (x : Refusal) (t : State) → Err x ≡ Ok t → A
 never_next x t e = let z : ◌≡◌ {A = ℕ} 0 1 = cc in absurd (omega arith)
 
-cond_next : (b : Bool) (r : Line) (x : Refusal) (t : State) → cond b r (Refused x) ≡ Next t → (b ≡ true) × (r ≡ Next t)
+cond_next : (b : Bool) (r : Result State Refusal) (x : Refusal) (t : State) → cond b r (Err x) ≡ Ok t → (b ≡ true) × (r ≡ Ok t)
 cond_next true r x t e = (refl, e)
 cond_next false r x t e = never_next x t e
 
-capped_next : (n t : State) → capped n ≡ Next t → over_counts n ≡ false
+capped_next : (n t : State) → capped n ≡ Ok t → over_counts n ≡ false
 capped_next n t = go (over_counts n)
   where
-    go : (b : Bool) → cond b (Refused refusal.Limit) (Next n) ≡ Next t → b ≡ false
+    go : (b : Bool) → cond b (Err refusal.Limit) (Ok n) ≡ Ok t → b ≡ false
     go true e = never_next refusal.Limit t e
     go false e = refl
 
-when_next : (n t : State) (b : Bool) (f : Frame) → frame_line n (when b f) ≡ Next t → (b ≡ true) × (over_counts (count_after n f) ≡ false)
+when_next : (n t : State) (b : Bool) (f : Frame) → frame_line n (when b f) ≡ Ok t → (b ≡ true) × (over_counts (count_after n f) ≡ false)
 when_next n t true f e = (refl, capped_next (count_after n f) t e)
 when_next n t false f e = never_next refusal.Frame t e
 
@@ -104,9 +105,9 @@ when_next n t false f e = never_next refusal.Frame t e
 pub record Taken (n : State) (line : List ℕ) (t : State) : Type 0 where
   pub hex : is_hex line ≡ true
   pub order : in_order n.stage n.mechanisms (kind_of (bytes_of line)) ≡ true
-  pub frame : frame_line n (frame_of n.detectors n.observables (bytes_of line)) ≡ Next t
+  pub frame : frame_line n (frame_of n.detectors n.observables (bytes_of line)) ≡ Ok t
 
-taken : (n : State) (line : List ℕ) (t : State) → line_of n line ≡ Next t → Taken n line t
+taken : (n : State) (line : List ℕ) (t : State) → line_of n line ≡ Ok t → Taken n line t
 unfolding line_of
 taken n line t e =
     let (h, p) = cond_next (is_hex line) _ refusal.Frame t e in
@@ -115,10 +116,10 @@ taken n line t e =
 
 -- a line in order has a kind
 some_long : (n : State) (l : List ℕ) → in_order n.stage n.mechanisms (kind_of l) ≡ true → 0 < length l
-some_long n [] h = clash h (order_none n.stage n.mechanisms)
+some_long n [] h = clash h (order_none n.stage n.mechanisms 0 none_empty)
 some_long n (b ∷ l) h = omega arith
 
-module _ (n : State) (line : List ℕ) (c : Columns) (t : State) (w : over_counts n ≡ false) (g : roomy c ≡ true) (e : line_of n line ≡ Next t) where
+module _ (n : State) (line : List ℕ) (c : Columns) (t : State) (w : over_counts n ≡ false) (g : roomy c ≡ true) (e : line_of n line ≡ Ok t) where
   pub storable : Storable n (bytes_of line) c
   unfolding count_after words
   storable =
@@ -151,15 +152,15 @@ module _ (n : State) (line : List ℕ) (c : Columns) (t : State) (w : over_count
 module _ (s : Input) (line : List ℕ) where
   -- the line's frame, in order and held
   read_next : (f : Frame) → is_hex line ≡ true → in_order s.stage (length s.mechanisms) (kind_of (bytes_of line)) ≡ true
-      → frame_of s.detectors s.observables (bytes_of line) ≡ some f → over (after s f) ≡ false → read_line s line ≡ next (after s f)
+      → frame_of s.detectors s.observables (bytes_of line) ≡ Some f → over (after s f) ≡ false → read_line s line ≡ next (after s f)
   unfolding read_line
   read_next f h o p v = rw (h, o, p, v)
 
   -- a refused line adds nothing
-  read_refused : (x : Refusal) → answer_of (read_line s line) ≡ Refused x → read_by s (read_line s line) ≡ s
+  read_refused : (x : Refusal) → answer_of (read_line s line) ≡ Err x → read_by s (read_line s line) ≡ s
   read_refused x = go (read_line s line)
     where
-      go : (r : Read) → answer_of r ≡ Refused x → read_by s r ≡ s
+      go : (r : Read) → answer_of r ≡ Err x → read_by s r ≡ s
       go (next u) e = never_next x (counts_of u) (sym e)
       go (refused y) e = refl
 
@@ -168,8 +169,8 @@ frame_stored : (s : Input) (line : List ℕ) (c : Columns) (t : State) → c ≡
 frame_stored s line c t e g w k = go (frame_of s.detectors s.observables (bytes_of line)) refl
   where
     go : (o : Option Frame) → frame_of s.detectors s.observables (bytes_of line) ≡ o → stored (counts_of s) o c ≡ columns_at (read_by s (read_line s line)) c
-    go none p = never_next refusal.Frame t (sym (ap (frame_line (counts_of s)) p) ∙ k.frame)
-    go (some f) p =
+    go None p = never_next refusal.Frame t (sym (ap (frame_line (counts_of s)) p) ∙ k.frame)
+    go (Some f) p =
         let l = bytes_of line in
         let here = held_of (counts_of s) w in
         let v = capped_next (count_after (counts_of s) f) t (sym (ap (frame_line (counts_of s)) p) ∙ k.frame) in
@@ -186,7 +187,7 @@ module _ (line : List ℕ) (n : State) (c : Columns) where
   unfolding answer_to
   by_line w g = rw (w, g) refl
 
-  pub over_read : over_counts n ≡ true → LineRead line n c (Refused refusal.Limit) c
+  pub over_read : over_counts n ≡ true → LineRead line n c (Err refusal.Limit) c
   unfolding answer_to
   over_read t = record {
     answers = rw t refl;
@@ -195,7 +196,7 @@ module _ (line : List ℕ) (n : State) (c : Columns) where
     tables = λ s h _. clash t h.within;
   }
 
-  pub short_read : over_counts n ≡ false → roomy c ≡ false → LineRead line n c (Refused refusal.Short) c
+  pub short_read : over_counts n ≡ false → roomy c ≡ false → LineRead line n c (Err refusal.Short) c
   unfolding answer_to
   short_read w f = record {
     answers = rw (w, f) refl;
@@ -204,24 +205,28 @@ module _ (line : List ℕ) (n : State) (c : Columns) where
     tables = λ s h g. clash g f;
   }
 
-  answered : (r : Line) → r ≡ line_of n line → (s : Input) → Holds s n c → r ≡ answer_of (read_line s line)
+  answered : (r : Result State Refusal) → r ≡ line_of n line → (s : Input) → Holds s n c → r ≡ answer_of (read_line s line)
   answered r e s h = e ∙ ap (λ (m : State). line_of m line) h.counts ∙ answers s line
 
-  pub refused_read : over_counts n ≡ false → roomy c ≡ true → (x : Refusal) → Refused x ≡ line_of n line → LineRead line n c (Refused x) c
+  pub refused_read : over_counts n ≡ false → roomy c ≡ true → (x : Refusal) → Err x ≡ line_of n line → LineRead line n c (Err x) c
   refused_read w g x e = record {
     answers = e ∙ sym (by_line w g);
     leaves = refl;
-    answer = λ s h _. answered (Refused x) e s h;
-    tables = λ s h _. h.tables ∙ ap (λ (u : Input). columns_at u c) (sym (read_refused s line x (sym (answered (Refused x) e s h))));
+    answer = λ s h _. answered (Err x) e s h;
+    tables = λ s h _. h.tables ∙ ap (λ (u : Input). columns_at u c) (sym (read_refused s line x (sym (answered (Err x) e s h))));
   }
 
-  pub next_read : over_counts n ≡ false → roomy c ≡ true → (t : State) (left : Columns) → Next t ≡ line_of n line
-      → left ≡ stored n (frame_of n.detectors n.observables (bytes_of line)) c → LineRead line n c (Next t) left
+  pub next_read : over_counts n ≡ false → roomy c ≡ true → (t : State) (left : Columns) → Ok t ≡ line_of n line
+      → left ≡ stored n (frame_of n.detectors n.observables (bytes_of line)) c → LineRead line n c (Ok t) left
   next_read w g t left e q = record {
     answers = e ∙ sym (by_line w g);
     leaves = q;
-    answer = λ s h _. answered (Next t) e s h;
+    answer = λ s h _. answered (Ok t) e s h;
     tables = λ s h _.
         q ∙ ap (λ (m : State). stored m (frame_of m.detectors m.observables (bytes_of line)) c) h.counts
         ∙ frame_stored s line c t h.tables g (rw h.counts at h.within) (taken (counts_of s) line t (rw h.counts at (sym e)));
   }
+
+-- ---- for the calls
+
+pub ruleset by_store = (stored_header, frame_2, frame_3, stored_end, frame_5, frame_6, frame_none, stored_when)

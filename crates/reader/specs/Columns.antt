@@ -1,17 +1,16 @@
 -- The tables that lines are read into.
+use Rattle.std.specs.Prelude.{Option, None, Some}
+use Rattle.std.specs.Prelude.{Result, Ok, Err}
 use Rattle.std.specs.Prelude.{ℕ, ◌+◌, ◌-◌, ◌*◌, ◌<◌, ◌≤◌, min, ◌≡◌, List, ◌++◌, map, Bool, true, false, cond, ◌&&◌, length, get_or, take, drop, set, leb}
-use Rattle.std.proofs.Math.Option.{Option, none, some}
 use Rattle.std.proofs.lemmas.List.Edits.{sets}
 use Rattle.codes.specs.declared.Refusal.{Refusal}
 use Rattle.codes.specs.declared.Refusal.TheVariants as refusal
 use Rattle.bits.specs.Rows.{words}
-use Rattle.columns.specs.Columns.{column}
+use Rattle.counts.specs.Rows.{column}
 use Rattle.hex_text.specs.Hex.{bytes_of}
 use Rattle.dem.specs.Model.{Symptom}
 use Rattle.dem.specs.Tables.{written}
 use Rattle.frames.specs.declared.State.{State}
-use Rattle.frames.specs.declared.Line.{Line}
-use Rattle.frames.specs.declared.Line.TheVariants.{Next, Refused}
 use Rattle.frames.specs.Frames.{Frame, header, mechanism, component, end, row, truth, frame_of, kind_of, symptom_long, symptom_of}
 use Rattle.frames.specs.Input.{Input, Read, next, refused, tables_read, read_line}
 use Rattle.frames.specs.Counts.{counts_of, answer_of, size_of, over_counts, line_of}
@@ -134,8 +133,8 @@ stored_frame n (truth ws) c = record {
 }
 
 abbrev pub stored : State → Option Frame → Columns → Columns
-stored n none c = c
-stored n (some f) c = stored_frame n f c
+stored n None c = c
+stored n (Some f) c = stored_frame n f c
 
 -- a frame that may be stored: the line has its length, and the tables have its places
 pub record Storable (n : State) (l : List ℕ) (c : Columns) : Type 0 where
@@ -161,17 +160,17 @@ read_by s (next t) = t
 read_by s (refused r) = s
 
 -- the answer to a line: 1 for numbers that no line leads to, 2 for tables too short, else by the numbers
-unfoldable pub answer_to : List ℕ → State → Columns → Line
+unfoldable pub answer_to : List ℕ → State → Columns → Result State Refusal
 unfolding line_of
-answer_to line n c = cond (over_counts n) (Refused refusal.Limit) (cond (roomy c) (line_of n line) (Refused refusal.Short))
+answer_to line n c = cond (over_counts n) (Err refusal.Limit) (cond (roomy c) (line_of n line) (Err refusal.Short))
 
 -- the tables: a line that is refused, with whatever code, writes nothing; else its frame is stored
-abbrev pub columns_left : Line → List ℕ → State → Columns → Columns
-columns_left (Refused x) line n c = c
-columns_left (Next m) line n c = stored n (frame_of n.detectors n.observables (bytes_of line)) c
+abbrev pub columns_left : Result State Refusal → List ℕ → State → Columns → Columns
+columns_left (Err x) line n c = c
+columns_left (Ok m) line n c = stored n (frame_of n.detectors n.observables (bytes_of line)) c
 
 -- all that the call promises: its answer r to a line and every word that it leaves, whatever the numbers and the tables
-pub record LineRead (line : List ℕ) (n : State) (c : Columns) (r : Line) (left : Columns) : Type 0 where
+pub record LineRead (line : List ℕ) (n : State) (c : Columns) (r : Result State Refusal) (left : Columns) : Type 0 where
   pub answers : r ≡ answer_to line n c
   pub leaves : left ≡ columns_left r line n c
   -- and where they are those of what was read, the answer is that of the definition, and what is read with the line stands at the front of every table

@@ -6,26 +6,16 @@ ghost use Rattle.std.proofs.lemmas.List.Edits.{sets};
 ghost use Rattle.hex_text.specs.Hex.{bytes_of, number};
 ghost use Rattle.frames.specs.Frames.{symptom_long, symptom_of, frame_of};
 ghost use Rattle.frames.specs.Counts.{size_of};
-ghost use Rattle.columns.specs.Columns.{column, Wide};
+ghost use Rattle.counts.specs.Rows.{column};
 ghost use Rattle.reader.specs.Columns.{columns_of, byte_of, long_enough, listed, stored, Storable, LineRead};
 
 use codes::Refusal;
-use frames::{Line, State};
+use frames::{Kind, State};
 
 // The words of a shot: its row, of 256 detectors, then the true values of 128 observables.
 pub const ROW_WORDS: usize = 4;
 
 pub const SHOT_WORDS: usize = 6;
-
-// One more component, as far as a byte counts.
-fn one_more(count: u8) -> u8
-    ensures { result ≡ byte_of (count + 1) }
-{
-    if count < 255 {
-        return count + 1;
-    }
-    255
-}
 
 // 02: the next mechanism, with no components yet.
 fn store_mechanism(
@@ -35,7 +25,7 @@ fn store_mechanism(
     counts: &mut [[u8; 5]],
     entries: &mut [u32],
 )
-    requires { (symptom_long (drop 9 (bytes_of line.now)) ≡ true) × (n.mechanisms < length probability_bits.old) × (n.mechanisms < length counts.old) × Wide 5 counts.old
+    requires { (symptom_long (drop 9 (bytes_of line.now)) ≡ true) × (n.mechanisms < length probability_bits.old) × (n.mechanisms < length counts.old)
         × (n.entries + size_of (symptom_of (drop 9 (bytes_of line.now))) ≤ length entries.old) }
     ensures { (probability_bits.new ≡ set probability_bits.old n.mechanisms (number (take 8 (drop 1 (bytes_of line.now)))))
         × (column 0 0 counts.new ≡ set (column 0 0 counts.old) n.mechanisms (length (symptom_of (drop 9 (bytes_of line.now))).detectors))
@@ -59,7 +49,7 @@ fn store_mechanism(
 
 // 03: a component of the last mechanism.
 fn store_component(line: &[u8], n: State, counts: &mut [[u8; 5]], entries: &mut [u32])
-    requires { (symptom_long (drop 1 (bytes_of line.now)) ≡ true) × (0 < n.mechanisms) × (n.mechanisms ≤ length counts.old) × (n.components < length counts.old) × Wide 5 counts.old
+    requires { (symptom_long (drop 1 (bytes_of line.now)) ≡ true) × (0 < n.mechanisms) × (n.mechanisms ≤ length counts.old) × (n.components < length counts.old)
         × (n.entries + size_of (symptom_of (drop 1 (bytes_of line.now))) ≤ length entries.old) }
     ensures { (column 0 0 counts.new ≡ column 0 0 counts.old)
         × (column 0 1 counts.new ≡ column 0 1 counts.old)
@@ -74,7 +64,7 @@ fn store_component(line: &[u8], n: State, counts: &mut [[u8; 5]], entries: &mut 
     let d = hex_text::byte_at(line, 1);
     let o = hex_text::byte_at(line, 2);
     let size = d as usize + o as usize;
-    let more = one_more(counts::count(counts, last, counts::COMPONENTS));
+    let more = counts::count(counts, last, counts::COMPONENTS).saturating_add(1);
     counts::set_count(counts, last, counts::COMPONENTS, more);
     counts::set_count(counts, c, counts::COMPONENT_DETECTORS, d);
     counts::set_count(counts, c, counts::COMPONENT_OBSERVABLES, o);
@@ -82,6 +72,7 @@ fn store_component(line: &[u8], n: State, counts: &mut [[u8; 5]], entries: &mut 
 }
 
 // A line that was answered by numbers: its frame into the tables.
+#[tactic(auto, unfolding(crate::specs::Columns::stored_frame), using(crate::proofs::Reading::by_store))]
 fn store(
     line: &[u8],
     n: State,
@@ -90,29 +81,24 @@ fn store(
     entries: &mut [u32],
     shot: &mut [u64],
 )
-    requires { Storable n (bytes_of line.now) (columns_of probability_bits.old counts.old entries.old shot.old) × Wide 5 counts.old }
+    requires { Storable n (bytes_of line.now) (columns_of probability_bits.old counts.old entries.old shot.old) }
     ensures { columns_of probability_bits.new counts.new entries.new shot.new
         ≡ stored n (frame_of n.detectors n.observables (bytes_of line.now)) (columns_of probability_bits.old counts.old entries.old shot.old) }
 {
-    let kind = hex_text::byte_at(line, 0);
-    if kind == 2 {
-        store_mechanism(line, n, probability_bits, counts, entries);
+    let Ok(kind) = Kind::try_from(hex_text::byte_at(line, 0)) else {
         return;
-    }
-    if kind == 3 {
-        store_component(line, n, counts, entries);
-        return;
-    }
-    let row = ROW_WORDS;
-    if kind == 5 {
-        let words = bits::words(n.detectors);
-        hex_text::read_u64s(line, 1, words, &mut shot[0..row]);
-        return;
-    }
-    if kind == 6 {
-        let words = bits::words(n.observables);
-        hex_text::read_u64s(line, 1, words, &mut shot[row..]);
-        return;
+    };
+    match kind {
+        Kind::Mechanism => store_mechanism(line, n, probability_bits, counts, entries),
+        Kind::Component => store_component(line, n, counts, entries),
+        Kind::Row => hex_text::read_u64s(line, 1, bits::words(n.detectors), &mut shot[..ROW_WORDS]),
+        Kind::Truth => hex_text::read_u64s(
+            line,
+            1,
+            bits::words(n.observables),
+            &mut shot[ROW_WORDS..],
+        ),
+        Kind::Header | Kind::End => {}
     }
 }
 
@@ -120,19 +106,14 @@ fn store(
 fn long_enough(probability_bits: usize, counts: usize, entries: usize, shot: usize) -> bool
     ensures { result ≡ long_enough probability_bits counts counts counts counts counts entries (min 4 shot) (shot - 4) }
 {
-    if probability_bits < frames::MAX_MECHANISMS {
-        return false;
-    }
-    if counts < frames::MAX_MECHANISMS {
-        return false;
-    }
-    if entries < frames::MAX_ENTRIES {
-        return false;
-    }
-    SHOT_WORDS <= shot
+    frames::MAX_MECHANISMS <= probability_bits
+        && frames::MAX_MECHANISMS <= counts
+        && frames::MAX_ENTRIES <= entries
+        && SHOT_WORDS <= shot
 }
 
 // One line: the numbers of what is read with it, or a refusal, which writes nothing. The rows of the counts have five entries each, as the contract's columns have it.
+#[tactic(auto, using(crate::proofs::Reading::over_read))]
 pub fn read_line(
     line: &[u8],
     n: State,
@@ -140,12 +121,12 @@ pub fn read_line(
     counts: &mut [[u8; 5]],
     entries: &mut [u32],
     shot: &mut [u64],
-) -> Line
+) -> Result<State, Refusal>
     ensures { LineRead line.now n (columns_of probability_bits.old counts.old entries.old shot.old)
         result (columns_of probability_bits.new counts.new entries.new shot.new) }
 {
     if frames::over(n) {
-        return Line::Refused(Refusal::Limit);
+        return Err(Refusal::Limit);
     }
     if !long_enough(
         probability_bits.len(),
@@ -153,15 +134,9 @@ pub fn read_line(
         entries.len(),
         shot.len(),
     ) {
-        return Line::Refused(Refusal::Short);
+        return Err(Refusal::Short);
     }
-    let answer = frames::next_line(line, n);
-    match answer {
-        Line::Refused(r) => Line::Refused(r),
-        Line::Next(next) => {
-            counts::count_rows(counts);
-            store(line, n, probability_bits, counts, entries, shot);
-            Line::Next(next)
-        }
-    }
+    let next = frames::next_line(line, n)?;
+    store(line, n, probability_bits, counts, entries, shot);
+    Ok(next)
 }

@@ -1,11 +1,11 @@
 -- The same of the call, on the example's shot of D1 and on every call.
+use Rattle.std.specs.Prelude.{Ok}
 use Prim.Native.Nat.{ℕ, zero, suc}
 use native.Mathlib.Omega.{arith}
 use mathlib.Core.Path.{◌≡◌, refl, sym}
 use mathlib.Core.List.{List, [], ◌∷◌}
 use mathlib.Core.Bool.{Bool, true, false}
 use lib.Ieee as Ieee
-use Rattle.codes.specs.declared.Checked.TheVariants.{Accepted}
 use Rattle.lists.specs.Lists.{odd}
 use Rattle.bits.specs.Rows.{bits_of}
 use Rattle.steps.specs.Growth.{ended, onward, after, turn}
@@ -49,7 +49,7 @@ explained = (refl, flips)
 stuck_first_lem : Fails d1 (answer.Stuck 0 1)
 stuck_first_lem list row s = s.exactly.0 (0, 1, refl) (1 ∷ 0 ∷ []) explained
 
-other_rounds : (h : Handed) (r : Answer) (list row : List ℕ) → Decodes h r list row → checks h ≡ Accepted → Blank (graph_of_call h) h.row
+other_rounds : (h : Handed) (r : Answer) (list row : List ℕ) → Decodes h r list row → checks h ≡ Ok tt → Blank (graph_of_call h) h.row
     → (t : Answer) → (rounds_told t ≡ rounds_told r → ⊥) → Fails h t
 other_rounds h r list row p ok blank t other list' row' s = other (rounds_fixed h t r list' row' list row s (decoder_stated h r list row p ok blank))
 

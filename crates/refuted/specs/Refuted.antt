@@ -1,6 +1,6 @@
 -- Wrong programs, those that the scope names and others: each breaks the statement of demand 3.
+use Rattle.std.specs.Prelude.{Ok}
 use Rattle.std.specs.Prelude.{ℕ, ◌≡◌, List, [], ◌∷◌, Bool}
-use Rattle.codes.specs.declared.Checked.TheVariants.{Accepted}
 use Rattle.steps.specs.Graph.{Graph, boundary}
 use Rattle.steps.specs.Cases.{quarter_weight}
 use Rattle.steps.specs.Found.{Programs, Blank, Demand3}
@@ -61,5 +61,5 @@ pub record RefutedCalls : Type 0 where
   -- "Stuck before growth on an explainable shot"
   pub stuck_first : Fails d1 (answer.Stuck 0 1)
   -- on every call that is not refused: any count but that of the proved call
-  pub other_rounds : (h : Handed) (r : Answer) (list row : List ℕ) → Decodes h r list row → checks h ≡ Accepted → Blank (graph_of_call h) h.row
+  pub other_rounds : (h : Handed) (r : Answer) (list row : List ℕ) → Decodes h r list row → checks h ≡ Ok tt → Blank (graph_of_call h) h.row
       → (s : Answer) → (rounds_told s ≡ rounds_told r → ⊥) → Fails h s

@@ -2,11 +2,10 @@
 // output, eight hexadecimal digits each, and a line feed, then both. A line for each case that is answered otherwise, and a count at the end.
 #![tactic(auto)]
 
-ghost use Rattle.std.specs.Prelude.{◌≡◌, ◌≤◌, length};
+ghost use Rattle.std.specs.Prelude.{◌≤◌};
 
 use std::io;
 use std::io::{ErrorKind, Read};
-use whole_input::Output;
 
 // More cases than a list has.
 const MAX_CASES: usize = 100000;
@@ -25,26 +24,15 @@ struct Tally {
     wrong: usize,
 }
 
-fn bytes() -> [u8; 65536]
-    ensures { 65536 ≡ length result }
-{
-    [0; 65536]
-}
-
 // So many bytes of the list, to the front of a slice; whether there were as many.
 fn take(list: &mut impl Read, n: usize, to: &mut [u8]) -> io::Result<bool> {
     if to.len() < n {
         return Ok(false);
     }
-    match list.read_exact(&mut to[0..n]) {
+    match list.read_exact(&mut to[..n]) {
         Ok(()) => Ok(true),
-        Err(e) => {
-            if e.kind() == ErrorKind::UnexpectedEof {
-                Ok(false)
-            } else {
-                Err(e)
-            }
-        }
+        Err(e) if e.kind() == ErrorKind::UnexpectedEof => Ok(false),
+        Err(e) => Err(e),
     }
 }
 
@@ -57,16 +45,15 @@ fn size_at(head: &[u8], at: usize) -> usize
     }
     let high = hex_text::u16_at(head, at);
     let low = hex_text::u16_at(head, at + 2);
-    65536 * (high as usize) + low as usize
+    65536 * usize::from(high) + usize::from(low)
 }
 
 // An input answered, and compared.
 fn answered(input: &[u8], expected: &[u8]) -> bool {
-    let mut out = bytes();
-    let answer = whole_input::answer_input(input, &mut out);
-    match answer {
-        Output::NoRoom => false,
-        Output::Whole(n) => &out[0..n] == expected,
+    let mut out = [0u8; 65536];
+    match whole_input::answer_input(input, &mut out) {
+        None => false,
+        Some(n) => &out[..n] == expected,
     }
 }
 
@@ -77,30 +64,22 @@ fn next_case(
     input: &mut [u8],
     expected: &mut [u8],
 ) -> io::Result<Case> {
-    if head.len() < 17 {
+    if head.len() < 17 || !take(list, 17, head)? {
         return Ok(Case::Last);
     }
-    if !take(list, 17, head)? {
-        return Ok(Case::Last);
-    }
-    let given = size_at(&head[0..16], 0);
-    let told = size_at(&head[0..16], 4);
-    if input.len() < given {
+    let given = size_at(&head[..16], 0);
+    let told = size_at(&head[..16], 4);
+    if input.len() < given || expected.len() < told {
         return Ok(Case::Wrong);
     }
-    if expected.len() < told {
+    if !take(list, given, input)? || !take(list, told, expected)? {
         return Ok(Case::Wrong);
     }
-    if !take(list, given, input)? {
-        return Ok(Case::Wrong);
+    if answered(&input[..given], &expected[..told]) {
+        Ok(Case::Right)
+    } else {
+        Ok(Case::Wrong)
     }
-    if !take(list, told, expected)? {
-        return Ok(Case::Wrong);
-    }
-    if answered(&input[0..given], &expected[0..told]) {
-        return Ok(Case::Right);
-    }
-    Ok(Case::Wrong)
 }
 
 // Case after case.
@@ -111,29 +90,25 @@ fn run(
     input: &mut [u8],
     expected: &mut [u8],
 ) -> io::Result<Tally> {
-    let mut cases = 0;
     let mut wrong = 0;
-    while cases < MAX_CASES {
-        let case = next_case(list, head, input, expected)?;
-        match case {
+    for cases in 0..MAX_CASES {
+        match next_case(list, head, input, expected)? {
             Case::Last => return Ok(Tally { cases, wrong }),
             Case::Right => {}
             Case::Wrong => {
                 println!(out; "case {cases} is answered otherwise")?;
-                if wrong < MAX_CASES {
-                    wrong += 1;
-                }
+                wrong += 1;
             }
         }
-        cases += 1;
     }
+    let cases = MAX_CASES;
     Ok(Tally { cases, wrong })
 }
 
 fn main(rt: HostRuntime) -> io::Result<()> {
     let mut head = [0u8; 17];
-    let mut input = bytes();
-    let mut expected = bytes();
+    let mut input = [0u8; 65536];
+    let mut expected = [0u8; 65536];
     let tally = run(&mut rt.stdin(), &rt, &mut head, &mut input, &mut expected)?;
     let cases = tally.cases;
     let wrong = tally.wrong;

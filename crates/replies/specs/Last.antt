@@ -1,10 +1,10 @@
 -- The line at the end of an input: docs/RULES.md, "Frames" and "The rate".
+use Rattle.codes.specs.Order.{Checked}
+use Rattle.std.specs.Prelude.{Ok, Err}
 use Rattle.std.specs.Prelude.{ℕ, List}
 use Rattle.std.specs.Float.{binary64}
 use Rattle.std.specs.Float.Ieee.{to_bits}
 use Rattle.codes.specs.declared.Refusal.{Refusal}
-use Rattle.codes.specs.declared.Checked.{Checked}
-use Rattle.codes.specs.declared.Checked.TheVariants.{Accepted, Refused}
 use Rattle.codes.specs.Codes.{code_of}
 use Rattle.failures.specs.Failures.{rate_of}
 use Rattle.replies.specs.Replies.{line_of, rate_reply, refusal_reply}
@@ -22,5 +22,5 @@ rate_text o failures shots = line_of (rate_reply shots failures (to_bits binary6
 -- the end of an input of O observables: as it is accepted or not
 unfoldable pub last_text : Checked → ℕ → ℕ → ℕ → List ℕ
 unfolding refusal_text rate_text
-last_text (Refused r) o failures shots = refusal_text r
-last_text Accepted o failures shots = rate_text o failures shots
+last_text (Err r) o failures shots = refusal_text r
+last_text (Ok tt) o failures shots = rate_text o failures shots

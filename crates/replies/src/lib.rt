@@ -2,8 +2,7 @@
 #![tactic(auto)]
 
 ghost use Rattle.std.specs.Prelude.{◌≡◌, ◌++◌, ◌+◌, ◌*◌, ◌≤◌, length, drop};
-ghost use Rattle.codes.specs.Codes.{code_of};
-ghost use Rattle.replies.specs.Replies.{line_of, row_reply, list_reply, rate_reply, refusal_reply};
+ghost use Rattle.replies.specs.Replies.{line_of, row_reply, list_reply, rate_reply};
 ghost use Rattle.std.specs.Float.{binary64};
 ghost use Rattle.std.specs.Float.Ieee.{to_bits};
 ghost use Rattle.dem.specs.Tables.{written};
@@ -53,41 +52,30 @@ fn rate_line(shots: u64, failures: u64, rate: u64, out: &mut [u8]) -> usize
     35
 }
 
-// ff: the code of a refusal.
-fn refusal_line(r: Refusal, out: &mut [u8]) -> usize
-    requires { 5 ≤ length out.old }
-    ensures { (result ≡ length (line_of (refusal_reply (code_of r))))
-        × (out.new ≡ line_of (refusal_reply (code_of r)) ++ drop (length (line_of (refusal_reply (code_of r)))) out.old) }
-{
-    hex_text::write_byte(0xff, out, 0);
-    hex_text::write_byte(codes::code(r), out, 2);
-    out[4] = b'\n';
-    5
-}
-
 // The bits of the rate: both counts are below 2^32, so neither loses a digit, and the quotient is no NaN.
 fn rate_bits(observables: usize, failures: u32, shots: u32) -> u64
     requires { failures ≤ shots }
     ensures { result ≡ to_bits binary64 (rate_of observables failures shots) }
 {
-    if shots == 0 {
-        return 0;
-    }
-    if observables == 0 {
+    if shots == 0 || observables == 0 {
         return 0;
     }
     f64::to_bits((failures as f64) / (shots as f64))
 }
 
-// ff and the code.
+// ff: the code of a refusal.
 pub fn write_refusal(r: Refusal, out: &mut [u8]) -> usize
     requires { 5 ≤ length out.old }
     ensures { (result ≡ length (refusal_text r)) × (out.new ≡ written (refusal_text r) out.old) }
 {
-    refusal_line(r, out)
+    hex_text::write_byte(0xff, out, 0);
+    hex_text::write_byte(r.code(), out, 2);
+    out[4] = b'\n';
+    5
 }
 
 // 8f.
+#[tactic(auto, unfolding(crate::specs::Last::rate_text))]
 fn write_rate(observables: usize, failures: u32, shots: u32, out: &mut [u8]) -> usize
     requires { (failures ≤ shots) × (35 ≤ length out.old) }
     ensures { (result ≡ length (rate_text observables failures shots)) × (out.new ≡ written (rate_text observables failures shots) out.old) }
@@ -97,6 +85,7 @@ fn write_rate(observables: usize, failures: u32, shots: u32, out: &mut [u8]) -> 
 }
 
 // 8f, or the refusal of an input that ends too early.
+#[tactic(auto, unfolding(crate::specs::Last::last_text))]
 pub fn write_last(
     end: Checked,
     observables: usize,
@@ -108,7 +97,7 @@ pub fn write_last(
     ensures { (result ≡ length (last_text end observables failures shots)) × (out.new ≡ written (last_text end observables failures shots) out.old) }
 {
     match end {
-        Checked::Refused(r) => write_refusal(r, out),
-        Checked::Accepted => write_rate(observables, failures, shots, out),
+        Err(r) => write_refusal(r, out),
+        Ok(()) => write_rate(observables, failures, shots, out),
     }
 }

@@ -1,11 +1,10 @@
 -- Tables at rest, by rows. Assumes nothing.
-use Prim.Native.Nat.{ℕ, zero, suc, ◌+◌, ◌-◌, ◌<◌}
+use Prim.Native.Nat.{ℕ, zero, suc, ◌+◌, ◌<◌}
 use native.Mathlib.Omega.{arith}
-use native.Mathlib.Nat.{not-suc-le-zero, le_of_suc-le-suc}
 use native.Mathlib.Numerals.{add-one}
 use mathlib.Core.Path.{◌≡◌, refl, sym, ap, ◌∙◌}
 use mathlib.Core.List.{List, [], ◌∷◌, ◌++◌, map}
-use mathlib.Core.Bool.{false}
+use mathlib.Core.Bool.{Bool, false}
 use lib.ListN.{length, get_or, set, drop, replicate, length-map}
 use lib.Seq.{drop-cons, set_at, append_snoc}
 use Rattle.lists.specs.Lists.{from, below}
@@ -13,8 +12,7 @@ use Rattle.lists.proofs.Members.{length_below, map_snoc}
 use Rattle.lists.proofs.Ranges.{from_append}
 use Rattle.steps.specs.Graph.{boundary}
 use Rattle.growth_state.specs.Rep.{zero64}
-use Rattle.columns.specs.Columns.{column, Wide}
-use Rattle.cells.specs.Tables.{parents, exits}
+use Rattle.cells.specs.Tables.{parents, exits, flag_column}
 use Rattle.rest.specs.Rows.{alone, quiet, Rested}
 
 -- ---- one row more
@@ -33,50 +31,29 @@ rows_next {A} f t i h =
 
 -- ---- the columns of equal rows, and of rows that are made of their numbers
 
-column_same : {A : Type 0} (z : A) (k n : ℕ) (r : List A) → column z k (replicate n r) ≡ replicate n (get_or r k z)
-unfolding column
-column_same z k zero r = refl
-column_same {A} z k (suc n) r = ap (λ (l : List A). get_or r k z ∷ l) (column_same z k n r)
-
-wide_same : {A : Type 0} (n : ℕ) (r : List A) → Wide (length r) (replicate n r)
-wide_same {A} n r = record { wide = go n }
-  where
-    go : (n d : ℕ) → d < length (replicate n r) → length (get_or (replicate n r) d []) ≡ length r
-    go zero d h = absurd (not-suc-le-zero h)
-    go (suc n) zero h = refl
-    go (suc n) (suc d) h = go n d (le_of_suc-le-suc h)
+quiet_same : (k n : ℕ) → map (flag_column k) (replicate n quiet) ≡ replicate n (flag_column k quiet)
+quiet_same k zero = refl
+quiet_same k (suc n) = ap (λ (l : List Bool). flag_column k quiet ∷ l) (quiet_same k n)
 
 parents_alone : (l : List ℕ) → parents (map alone l) ≡ l
-unfolding column
 parents_alone [] = refl
 parents_alone (x ∷ l) = ap (λ (m : List ℕ). x ∷ m) (parents_alone l)
 
 exits_alone : (l : List ℕ) → exits (map alone l) ≡ replicate (length l) boundary
-unfolding column
 exits_alone [] = refl
 exits_alone (x ∷ l) = ap (λ (m : List ℕ). boundary ∷ m) (exits_alone l)
-
-wide_alone : (l : List ℕ) → Wide 2 (map alone l)
-wide_alone l = record { wide = go l }
-  where
-    go : (l : List ℕ) (d : ℕ) → d < length (map alone l) → length (get_or (map alone l) d []) ≡ 2
-    go [] d h = absurd (not-suc-le-zero h)
-    go (x ∷ l) zero h = refl
-    go (x ∷ l) (suc d) h = go l d (le_of_suc-le-suc h)
 
 pub rested : (d E : ℕ) → Rested d E (map alone (below d)) (replicate d quiet) (replicate E zero64) (replicate E false)
 rested d E = record {
   clean = record {
-    lits = column_same false 0 d quiet;
+    lits = quiet_same 0 d;
     growths = refl;
     sats = refl;
-    knowns = column_same false 1 d quiet;
+    knowns = quiet_same 1 d;
     parents = parents_alone (below d);
-    odds = column_same false 2 d quiet;
+    odds = quiet_same 2 d;
     exits = exits_alone (below d) ∙ ap (λ n. replicate n boundary) (length_below d);
-    hots = column_same false 3 d quiet;
-    frees = column_same false 4 d quiet;
+    hots = quiet_same 3 d;
+    frees = quiet_same 4 d;
   };
-  trees = wide_alone (below d);
-  flagged = wide_same d quiet;
 }

@@ -7,16 +7,25 @@ ghost use Rattle.std.specs.Float.{binary64};
 ghost use Rattle.std.specs.Float.Ieee.{of_bits};
 ghost use Rattle.growth_state.specs.Rep.{Used};
 ghost use Rattle.rest.specs.Clean.{Clean, Stretch, Cleared, Cleaning};
-ghost use Rattle.columns.specs.Columns.{Wide};
 ghost use Rattle.cells.specs.Tables.{parents, exits, lits, knowns, odds, hots, frees, seen};
 ghost use Rattle.adjacency.specs.Pairs.{near, away};
 ghost use Rattle.lists.specs.Lists.{below};
 ghost use Rattle.rest.specs.Rows.{cut, alone, quiet, Spaces, Rested};
 
-use adjacency::EDGE;
-use cells::SEEN;
+use adjacency::Neighbor;
+use cells::{Flags, Node, Stack};
 
 const BOUNDARY: u32 = 4294967295;
+
+// A detector at rest: a cluster of its own, without exit.
+fn alone(x: u32) -> Node
+    ensures { result ≡ alone x }
+{
+    Node {
+        parent: x,
+        exit: BOUNDARY,
+    }
+}
 
 // An edge that has not grown. A function of its own, so that what it stores is a fact of its own.
 fn shrink(growth: &mut [f64], e: usize)
@@ -27,14 +36,12 @@ fn shrink(growth: &mut [f64], e: usize)
 }
 
 // The edges listed from start to end have neither grown nor saturated.
-pub fn clean_edges(adj: &[[u32; 2]], start: usize, end: usize, growth: &mut [f64], sat: &mut [bool])
+pub fn clean_edges(adj: &[Neighbor], start: usize, end: usize, growth: &mut [f64], sat: &mut [bool])
     requires { Stretch (near adj.now) start end (length sat.old) × (length growth.old ≡ length sat.old) }
     ensures { Cleared (slice start end (near adj.now)) growth.old sat.old growth.new sat.new }
 {
-    let mut k = start;
-    while k < end {
-        let e = cells::pair(adj, k, EDGE) as usize;
-        k += 1;
+    for k in start..end {
+        let e = adj[k].edge as usize;
         shrink(growth, e);
         sat[e] = false;
     }
@@ -46,27 +53,23 @@ pub fn clean(
     edge_u: &[u32],
     edge_v: &[u32],
     adj_offsets: &[u32],
-    adj: &[[u32; 2]],
-    tree: &mut [[u32; 2]],
-    flags: &mut [[bool; 8]],
-    stacks: &[[u32; 6]],
+    adj: &[Neighbor],
+    tree: &mut [Node],
+    flags: &mut [Flags],
+    stacks: &[Stack],
     growth: &mut [f64],
     sat: &mut [bool],
     n: usize,
 )
     requires cleaning { Cleaning d edge_u.now edge_v.now adj_offsets.now (near adj.now) (away adj.now) (seen stacks.now) n }
     requires used { Used d edge_u.now edge_v.now (take n (seen stacks.now)) (lits flags.old) growth.old sat.old (knowns flags.old) (parents tree.old) (odds flags.old) (exits tree.old) (hots flags.old) (frees flags.old) }
-    requires wide { Wide 2 tree.old × Wide 8 flags.old }
     ensures clean { Clean d (length edge_u.now) (lits flags.new) growth.new sat.new (knowns flags.new) (parents tree.new) (odds flags.new) (exits tree.new) (hots flags.new) (frees flags.new) }
-    ensures wide_2 { Wide 2 tree.new × Wide 8 flags.new }
 {
-    let mut i = 0;
-    while i < n {
-        let x = cells::stack(stacks, i, SEEN);
+    for i in 0..n {
+        let x = stacks[i].seen;
         let k = x as usize;
-        i += 1;
-        tree[k] = [x, BOUNDARY];
-        flags[k] = [false; 8];
+        tree[k] = alone(x);
+        flags[k] = cells::FLAGS;
         let start = adj_offsets[k] as usize;
         let end = adj_offsets[k + 1] as usize;
         clean_edges(adj, start, end, growth, sat);
@@ -74,34 +77,28 @@ pub fn clean(
 }
 
 // Each detector is a cluster of its own, without exit.
-pub fn rest_tree(t: &mut [[u32; 2]])
+pub fn rest_tree(t: &mut [Node])
     requires { length t.old < 4294967296 }
     ensures { t.new ≡ map alone (below (length t.old)) }
 {
-    let mut i = 0;
-    while i < t.len() {
-        t[i] = [i as u32, BOUNDARY];
-        i += 1;
+    for i in 0..t.len() {
+        t[i] = alone(i as u32);
     }
 }
 
 // Nothing is marked.
-pub fn rest_flags(t: &mut [[bool; 8]])
+pub fn rest_flags(t: &mut [Flags])
     ensures { t.new ≡ replicate (length t.old) quiet }
 {
-    let mut i = 0;
-    while i < t.len() {
-        t[i] = [false; 8];
-        i += 1;
-    }
+    t.fill(cells::FLAGS);
 }
 
 // The tables are at rest.
 pub fn reset(
     detectors: usize,
     edges: usize,
-    tree: &mut [[u32; 2]],
-    flags: &mut [[bool; 8]],
+    tree: &mut [Node],
+    flags: &mut [Flags],
     growth: &mut [f64],
     sat: &mut [bool],
 )
@@ -110,6 +107,6 @@ pub fn reset(
 {
     rest_tree(&mut tree[0..detectors]);
     rest_flags(&mut flags[0..detectors]);
-    tables::fill_f64(&mut growth[0..edges], 0.0);
-    tables::fill_bool(&mut sat[0..edges], false);
+    growth[0..edges].fill(0.0);
+    sat[0..edges].fill(false);
 }

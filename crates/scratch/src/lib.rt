@@ -7,7 +7,7 @@ ghost use Rattle.scratch.specs.Scratch.{lengths_for, scratch_long};
 ghost use Rattle.scratch.specs.Laws.{each};
 
 #[repr(C)]
-#[derive(Clone, Copy)]
+#[derive(Clone, Copy, Default)]
 pub struct Lengths {
     pub adj_offsets: usize,
     pub adj: usize,
@@ -20,6 +20,7 @@ pub struct Lengths {
 }
 
 // The least lengths, for counts within the limits.
+#[tactic(auto, unfolding(crate::specs::Scratch::lengths_for))]
 pub fn least_lengths(detectors: usize, edges: usize) -> Lengths
     requires { (detectors ≤ max_detectors) × (edges ≤ max_mechanisms) }
     ensures { result ≡ lengths_for detectors edges }
@@ -40,48 +41,34 @@ pub fn least_lengths(detectors: usize, edges: usize) -> Lengths
 pub fn no_lengths() -> Lengths
     ensures { result ≡ each 0 }
 {
-    Lengths {
-        adj_offsets: 0,
-        adj: 0,
-        tree: 0,
-        flags: 0,
-        stacks: 0,
-        links: 0,
-        growth: 0,
-        sat: 0,
-    }
+    Lengths::default()
 }
 
 // Whether one slice has the entries needed, and so have the rest.
 pub fn fits(need: usize, len: usize, rest: bool) -> bool
     ensures { result ≡ (leb need len && rest) }
 {
-    if len < need {
-        return false;
-    }
-    rest
+    need <= len && rest
 }
 
 // The same of one entry more than n.
 pub fn fits_past(n: usize, len: usize, rest: bool) -> bool
     ensures { result ≡ (ltb n len && rest) }
 {
-    if len <= n {
-        return false;
-    }
-    rest
+    n < len && rest
 }
 
 // Whether each slice has what the counts need, whatever they are: no product or sum of them is made.
+#[tactic(auto, unfolding(crate::specs::Scratch::scratch_long, crate::specs::Scratch::covers, crate::specs::Scratch::lengths_for))]
 pub fn long(detectors: usize, edges: usize, have: Lengths) -> bool
     ensures { result ≡ scratch_long detectors edges have }
 {
-    let mut rest = fits(edges, have.sat, true);
-    rest = fits(edges, have.growth, rest);
-    rest = fits_past(edges, have.links, rest);
-    rest = fits(detectors, have.stacks, rest);
-    rest = fits(detectors, have.flags, rest);
-    rest = fits(detectors, have.tree, rest);
-    rest = fits(edges, have.adj / 2, rest);
-    fits_past(detectors, have.adj_offsets, rest)
+    detectors < have.adj_offsets
+        && edges <= have.adj / 2
+        && detectors <= have.tree
+        && detectors <= have.flags
+        && detectors <= have.stacks
+        && edges < have.links
+        && edges <= have.growth
+        && edges <= have.sat
 }

@@ -1,20 +1,19 @@
 -- What each answer becomes across the C boundary: code 0 is success, and no refusal has it.
-use Rattle.std.specs.Prelude.{◌≡◌}
+use Rattle.failures.specs.declared.ErrorRate.{ErrorRate}
+use Rattle.failures.specs.declared.ErrorRate.TheVariants as error_rate
+use Rattle.std.specs.Prelude.{ℕ, ◌≡◌, Result, Ok, Err}
+use Rattle.codes.specs.Order.{Checked}
+use Rattle.codes.specs.declared.Refusal.{Refusal}
+use Rattle.split_model.specs.declared.Counts.{Counts}
+use Rattle.std.specs.Float.{Float}
 use Rattle.codes.specs.Codes.{code_of, first_of, second_of}
-use Rattle.decompose.specs.declared.Decomposed.{Decomposed}
-use Rattle.decompose.specs.declared.Decomposed.TheVariants as decomposed
-use Rattle.graph.specs.declared.Compiled.{Compiled}
-use Rattle.graph.specs.declared.Compiled.TheVariants as compiled
-use Rattle.codes.specs.declared.Checked.{Checked}
-use Rattle.codes.specs.declared.Checked.TheVariants as checked
 use Rattle.codes.specs.declared.Refusal.TheVariants as refusal
 use Rattle.decoder.specs.declared.Answer.{Answer}
 use Rattle.decoder.specs.declared.Answer.TheVariants as answer
 use Rattle.marking.specs.declared.Marking.{Marking}
 use Rattle.marking.specs.declared.Marking.TheVariants as marking
 use Rattle.weight.specs.Weight.{zero64}
-use Rattle.failures.specs.declared.ErrorRate.{ErrorRate}
-use Rattle.failures.specs.declared.ErrorRate.TheVariants as error-rate
+use Rattle.server.specs.declared.Told.{Told}
 use Rattle.server.specs.declared.ModelWords.{ModelWords}
 use Rattle.server.specs.declared.GraphWords.{GraphWords}
 use Rattle.server.specs.declared.ShotWords.{ShotWords}
@@ -28,24 +27,28 @@ pub record InWords {A W : Type 0} (words : A → W) (P : A → Type 0) (r : W) :
   pub told : r ≡ words answer
   pub holds : P answer
 
+-- the code of a refusal, and the values beside it
+abbrev pub told_of : Refusal → Told
+told_of r = record { code = code_of r; first = first_of r; second = second_of r }
+
 -- ---- decomposition
 
-abbrev pub words_of_model : Decomposed → ModelWords
-words_of_model (decomposed.Into n) = record { code = 0; first = 0; second = 0; mechanisms = n.mechanisms; components = n.components; entries = n.entries }
-words_of_model (decomposed.Refused r) = record { code = code_of r; first = first_of r; second = second_of r; mechanisms = 0; components = 0; entries = 0 }
+abbrev pub words_of_model : Result Counts Refusal → ModelWords
+words_of_model (Ok n) = record { code = 0; first = 0; second = 0; mechanisms = n.mechanisms; components = n.components; entries = n.entries }
+words_of_model (Err r) = record { code = code_of r; first = first_of r; second = second_of r; mechanisms = 0; components = 0; entries = 0 }
 
 -- ---- compiling
 
-abbrev pub words_of_graph : Compiled → GraphWords
-words_of_graph (compiled.Edges n) = record { code = 0; first = 0; second = 0; edges = n }
-words_of_graph (compiled.Refused r) = record { code = code_of r; first = first_of r; second = second_of r; edges = 0 }
+abbrev pub words_of_graph : Result ℕ Refusal → GraphWords
+words_of_graph (Ok n) = record { code = 0; first = 0; second = 0; edges = n }
+words_of_graph (Err r) = record { code = code_of r; first = first_of r; second = second_of r; edges = 0 }
 
 -- ---- the marker
 
-abbrev pub words_of_mark : Marking → MarkWords
-words_of_mark marking.Pass = record { code = 0; first = 0; second = 0; passed = 1; detector = 0 }
-words_of_mark (marking.Differs d) = record { code = 0; first = 0; second = 0; passed = 0; detector = d }
-words_of_mark (marking.Refused r) = record { code = code_of r; first = first_of r; second = second_of r; passed = 0; detector = 0 }
+abbrev pub words_of_mark : Result Marking Refusal → MarkWords
+words_of_mark (Ok marking.Pass) = record { code = 0; first = 0; second = 0; passed = 1; detector = 0 }
+words_of_mark (Ok (marking.Differs d)) = record { code = 0; first = 0; second = 0; passed = 0; detector = d }
+words_of_mark (Err r) = record { code = code_of r; first = first_of r; second = second_of r; passed = 0; detector = 0 }
 
 -- ---- one shot
 
@@ -58,11 +61,11 @@ words_of_shot (answer.Refused r) = record { code = code_of r; first = first_of r
 -- ---- a batch
 
 abbrev pub words_of_batch : Checked → BatchWords
-words_of_batch checked.Accepted = record { code = 0; first = 0; second = 0 }
-words_of_batch (checked.Refused r) = record { code = code_of r; first = first_of r; second = second_of r }
+words_of_batch (Ok tt) = record { code = 0; first = 0; second = 0 }
+words_of_batch (Err r) = record { code = code_of r; first = first_of r; second = second_of r }
 
 -- ---- the rate
 
 abbrev pub words_of_rate : ErrorRate → RateWords
-words_of_rate (error-rate.Rate x) = record { code = 0; first = 0; second = 0; rate = x }
-words_of_rate (error-rate.Refused r) = record { code = code_of r; first = first_of r; second = second_of r; rate = zero64 }
+words_of_rate (error_rate.Rate x) = record { code = 0; first = 0; second = 0; rate = x }
+words_of_rate (error_rate.Refused r) = record { code = code_of r; first = first_of r; second = second_of r; rate = zero64 }

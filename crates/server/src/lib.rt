@@ -14,15 +14,16 @@ ghost use Rattle.graph.specs.Outcome.{outcome, Compiles};
 ghost use Rattle.codes.specs.Limits.{max_mechanisms};
 ghost use Rattle.server.specs.Lent.{lent_by, lengths_by};
 ghost use Rattle.server.specs.Lengths.{within, decode_lengths, decompose_with, decompose_lengths, compile_with, compile_lengths, mark_with, mark_lengths};
-ghost use Rattle.server.specs.Words.{InWords, words_of_model, words_of_graph, words_of_mark, words_of_shot, words_of_batch, words_of_rate};
+ghost use Rattle.server.specs.Words.{InWords, told_of, words_of_model, words_of_graph, words_of_mark, words_of_shot, words_of_batch, words_of_rate};
 
-use codes::Checked;
+use adjacency::Neighbor;
+use cells::{Flags, Link, Node, Stack};
+use codes::{Checked, Refusal};
 use decoder::Answer;
-use decompose::Decomposed;
 use failures::ErrorRate;
-use graph::Compiled;
 use marking::Marking;
 use scratch::Lengths;
+use split_model::Counts;
 
 // The counts of a lent graph.
 #[repr(C)]
@@ -31,6 +32,33 @@ pub struct Size {
     pub detectors: usize,
     pub observables: usize,
     pub edges: usize,
+}
+
+// What every answer begins with: its code, and the values beside it.
+#[derive(Clone, Copy)]
+struct Told {
+    code: u32,
+    first: usize,
+    second: usize,
+}
+
+// Success has code 0 and no values.
+const DONE: Told = Told {
+    code: 0,
+    first: 0,
+    second: 0,
+};
+
+impl From<Refusal> for Told {
+    ghost from_gives = { λ r t. t ≡ told_of r };
+
+    fn from(r: Refusal) -> Told {
+        Told {
+            code: r.code() as u32,
+            first: r.first_value(),
+            second: r.second_value() as usize,
+        }
+    }
 }
 
 // The answer of compiling.
@@ -43,22 +71,20 @@ pub struct GraphWords {
     pub edges: usize,
 }
 
-fn graph_words(a: Compiled) -> GraphWords
-    ensures { result ≡ words_of_graph a }
-{
-    match a {
-        Compiled::Edges(edges) => GraphWords {
-            code: 0,
-            first: 0,
-            second: 0,
-            edges: edges,
-        },
-        Compiled::Refused(r) => GraphWords {
-            code: codes::code(r) as u32,
-            first: codes::first_value(r),
-            second: codes::second_value(r) as usize,
-            edges: 0,
-        },
+impl From<Result<usize, Refusal>> for GraphWords {
+    ghost from_gives = { λ a w. w ≡ words_of_graph a };
+
+    fn from(a: Result<usize, Refusal>) -> GraphWords {
+        let (told, edges) = match a {
+            Ok(edges) => (DONE, edges),
+            Err(r) => (Told::from(r), 0),
+        };
+        GraphWords {
+            code: told.code,
+            first: told.first,
+            second: told.second,
+            edges,
+        }
     }
 }
 
@@ -85,7 +111,7 @@ pub extern "C" fn pavrenni_compile(
 ) -> GraphWords
     ensures { InWords words_of_graph (λ a. Compiles detectors observables (outcome detectors observables mechanisms (tables probability.now detector_counts.now observable_counts.now component_counts.now component_detectors.now component_observables.now entries.now) (slices edge_u.old edge_v.old edge_weight.old edge_obs.old edge_p.old) first.old next.old) a (slices edge_u.old edge_v.old edge_weight.old edge_obs.old edge_p.old) (slices edge_u.new edge_v.new edge_weight.new edge_obs.new edge_p.new)) result }
 {
-    graph_words(graph::from_model(
+    GraphWords::from(graph::from_model(
         detectors,
         observables,
         mechanisms,
@@ -143,12 +169,10 @@ pub struct MarkLengths {
 fn within(detectors: usize, items: usize) -> bool
     ensures { result ≡ within detectors items }
 {
-    if codes::MAX_DETECTORS < detectors {
-        return false;
-    }
-    items <= codes::MAX_MECHANISMS
+    detectors <= codes::MAX_DETECTORS && items <= codes::MAX_MECHANISMS
 }
 
+#[tactic(auto, unfolding(crate::specs::Lengths::decode_lengths))]
 #[unsafe(no_mangle)]
 pub extern "C" fn pavrenni_lengths_for(detectors: usize, edges: usize) -> Lengths
     ensures { result ≡ decode_lengths detectors edges }
@@ -178,6 +202,7 @@ fn decompose_lengths(detectors: usize, mechanisms: usize) -> DecomposeLengths
     }
 }
 
+#[tactic(auto, unfolding(crate::specs::Lengths::decompose_lengths))]
 #[unsafe(no_mangle)]
 pub extern "C" fn pavrenni_decompose_lengths_for(
     detectors: usize,
@@ -201,6 +226,7 @@ fn compile_lengths(detectors: usize, mechanisms: usize) -> CompileLengths
     }
 }
 
+#[tactic(auto, unfolding(crate::specs::Lengths::compile_lengths))]
 #[unsafe(no_mangle)]
 pub extern "C" fn pavrenni_compile_lengths_for(
     detectors: usize,
@@ -223,6 +249,7 @@ fn mark_lengths(detectors: usize, edges: usize) -> MarkLengths
     }
 }
 
+#[tactic(auto, unfolding(crate::specs::Lengths::mark_lengths))]
 #[unsafe(no_mangle)]
 pub extern "C" fn pavrenni_mark_lengths_for(detectors: usize, edges: usize) -> MarkLengths
     ensures { result ≡ mark_lengths detectors edges }
@@ -244,31 +271,22 @@ pub struct MarkWords {
     pub detector: u32,
 }
 
-fn mark_words(a: Marking) -> MarkWords
-    ensures { result ≡ words_of_mark a }
-{
-    match a {
-        Marking::Pass => MarkWords {
-            code: 0,
-            first: 0,
-            second: 0,
-            passed: 1,
-            detector: 0,
-        },
-        Marking::Differs { detector } => MarkWords {
-            code: 0,
-            first: 0,
-            second: 0,
-            passed: 0,
-            detector: detector,
-        },
-        Marking::Refused(r) => MarkWords {
-            code: codes::code(r) as u32,
-            first: codes::first_value(r),
-            second: codes::second_value(r) as usize,
-            passed: 0,
-            detector: 0,
-        },
+impl From<Result<Marking, Refusal>> for MarkWords {
+    ghost from_gives = { λ a w. w ≡ words_of_mark a };
+
+    fn from(a: Result<Marking, Refusal>) -> MarkWords {
+        let (told, passed, detector) = match a {
+            Ok(Marking::Pass) => (DONE, 1, 0),
+            Ok(Marking::Differs { detector }) => (DONE, 0, detector),
+            Err(r) => (Told::from(r), 0, 0),
+        };
+        MarkWords {
+            code: told.code,
+            first: told.first,
+            second: told.second,
+            passed,
+            detector,
+        }
     }
 }
 
@@ -288,7 +306,7 @@ pub extern "C" fn pavrenni_mark(
 ) -> MarkWords
     ensures { InWords words_of_mark (λ a. Marks (lent_by size edge_u.now edge_v.now edge_weight.now edge_obs.now) shot.now width list.now row.old marks.old wrong.old a row.new) result }
 {
-    mark_words(marker::mark(
+    MarkWords::from(marker::mark(
         size.detectors,
         size.observables,
         size.edges,
@@ -316,31 +334,26 @@ pub struct ShotWords {
     pub length: usize,
 }
 
-fn shot_words(a: Answer) -> ShotWords
-    ensures { result ≡ words_of_shot a }
-{
-    match a {
-        Answer::Decoded { rounds, length } => ShotWords {
-            code: 0,
-            first: 0,
-            second: 0,
-            rounds: rounds,
-            length: length,
-        },
-        Answer::Stuck { rounds, detector } => ShotWords {
-            code: 11,
-            first: 0,
-            second: detector as usize,
-            rounds: rounds,
-            length: 0,
-        },
-        Answer::Refused(r) => ShotWords {
-            code: codes::code(r) as u32,
-            first: codes::first_value(r),
-            second: codes::second_value(r) as usize,
-            rounds: 0,
-            length: 0,
-        },
+impl From<Answer> for ShotWords {
+    ghost from_gives = { λ a w. w ≡ words_of_shot a };
+
+    fn from(a: Answer) -> ShotWords {
+        let (told, rounds, length) = match a {
+            Answer::Decoded { rounds, length } => (DONE, rounds, length),
+            Answer::Stuck { rounds, detector } => (
+                Told::from(Refusal::Stuck { shot: 0, detector }),
+                rounds,
+                0,
+            ),
+            Answer::Refused(r) => (Told::from(r), 0, 0),
+        };
+        ShotWords {
+            code: told.code,
+            first: told.first,
+            second: told.second,
+            rounds,
+            length,
+        }
     }
 }
 
@@ -353,20 +366,19 @@ pub struct BatchWords {
     pub second: usize,
 }
 
-fn batch_words(a: Checked) -> BatchWords
-    ensures { result ≡ words_of_batch a }
-{
-    match a {
-        Checked::Accepted => BatchWords {
-            code: 0,
-            first: 0,
-            second: 0,
-        },
-        Checked::Refused(r) => BatchWords {
-            code: codes::code(r) as u32,
-            first: codes::first_value(r),
-            second: codes::second_value(r) as usize,
-        },
+impl From<Checked> for BatchWords {
+    ghost from_gives = { λ a w. w ≡ words_of_batch a };
+
+    fn from(a: Checked) -> BatchWords {
+        let told = match a {
+            Ok(()) => DONE,
+            Err(r) => Told::from(r),
+        };
+        BatchWords {
+            code: told.code,
+            first: told.first,
+            second: told.second,
+        }
     }
 }
 
@@ -376,11 +388,11 @@ pub extern "C" fn pavrenni_decode_shot(
     row: &mut [u64],
     list: &mut [u32],
     adj_offsets: &mut [u32],
-    adj: &mut [[u32; 2]],
-    tree: &mut [[u32; 2]],
-    flags: &mut [[bool; 8]],
-    stacks: &mut [[u32; 6]],
-    links: &mut [[u32; 4]],
+    adj: &mut [Neighbor],
+    tree: &mut [Node],
+    flags: &mut [Flags],
+    stacks: &mut [Stack],
+    links: &mut [Link],
     growth: &mut [f64],
     sat: &mut [bool],
     size: Size,
@@ -393,7 +405,7 @@ pub extern "C" fn pavrenni_decode_shot(
 ) -> ShotWords
     ensures { InWords words_of_shot (λ a. Decodes (handed (lent_by size edge_u.now edge_v.now edge_weight.now edge_obs.now) shot.now width row.old list.old (lengths_by adj_offsets.old adj.old tree.old flags.old stacks.old links.old growth.old sat.old)) a list.new row.new) result }
 {
-    shot_words(decoder::decode_shot(
+    ShotWords::from(decoder::decode_shot(
         size.detectors,
         size.observables,
         size.edges,
@@ -428,26 +440,22 @@ pub struct ModelWords {
     pub entries: usize,
 }
 
-fn model_words(a: Decomposed) -> ModelWords
-    ensures { result ≡ words_of_model a }
-{
-    match a {
-        Decomposed::Into(n) => ModelWords {
-            code: 0,
-            first: 0,
-            second: 0,
-            mechanisms: n.mechanisms,
-            components: n.components,
-            entries: n.entries,
-        },
-        Decomposed::Refused(r) => ModelWords {
-            code: codes::code(r) as u32,
-            first: codes::first_value(r),
-            second: codes::second_value(r) as usize,
-            mechanisms: 0,
-            components: 0,
-            entries: 0,
-        },
+impl From<Result<Counts, Refusal>> for ModelWords {
+    ghost from_gives = { λ a w. w ≡ words_of_model a };
+
+    fn from(a: Result<Counts, Refusal>) -> ModelWords {
+        let (told, mechanisms, components, entries) = match a {
+            Ok(n) => (DONE, n.mechanisms, n.components, n.entries),
+            Err(r) => (Told::from(r), 0, 0, 0),
+        };
+        ModelWords {
+            code: told.code,
+            first: told.first,
+            second: told.second,
+            mechanisms,
+            components,
+            entries,
+        }
     }
 }
 
@@ -484,7 +492,7 @@ pub extern "C" fn pavrenni_decompose(
 ) -> ModelWords
     ensures { InWords words_of_model (λ a. decomposition.Decomposes (decomposition.outcome detectors observables mechanisms (tables probability.now detector_counts.now observable_counts.now component_counts.now component_detectors.now component_observables.now entries.now) (tables out_probability.old out_detector_counts.old out_observable_counts.old out_component_counts.old out_component_detectors.old out_component_observables.old out_entries.old) (scratch_of starts.old before.old last_of.old first_of.old next_of.old numbers.old masks.old words0.old words1.old earlier.old)) a (tables out_probability.old out_detector_counts.old out_observable_counts.old out_component_counts.old out_component_detectors.old out_component_observables.old out_entries.old) (tables out_probability.new out_detector_counts.new out_observable_counts.new out_component_counts.new out_component_detectors.new out_component_observables.new out_entries.new)) result }
 {
-    model_words(graphlike::decompose_graphlike(
+    ModelWords::from(graphlike::decompose_graphlike(
         detectors,
         observables,
         mechanisms,
@@ -521,11 +529,11 @@ pub extern "C" fn pavrenni_decode_batch(
     out: &mut [u64],
     list: &mut [u32],
     adj_offsets: &mut [u32],
-    adj: &mut [[u32; 2]],
-    tree: &mut [[u32; 2]],
-    flags: &mut [[bool; 8]],
-    stacks: &mut [[u32; 6]],
-    links: &mut [[u32; 4]],
+    adj: &mut [Neighbor],
+    tree: &mut [Node],
+    flags: &mut [Flags],
+    stacks: &mut [Stack],
+    links: &mut [Link],
     growth: &mut [f64],
     sat: &mut [bool],
     size: Size,
@@ -539,7 +547,7 @@ pub extern "C" fn pavrenni_decode_batch(
 ) -> BatchWords
     ensures { InWords words_of_batch (λ a. batched.Decodes (batched.handed (lent_by size edge_u.now edge_v.now edge_weight.now edge_obs.now) rows.now shots width out.old (length list.old) (lengths_by adj_offsets.old adj.old tree.old flags.old stacks.old links.old growth.old sat.old)) a out.new) result }
 {
-    batch_words(batch::decode_batch(
+    BatchWords::from(batch::decode_batch(
         size.detectors,
         size.observables,
         size.edges,
@@ -573,22 +581,20 @@ pub struct RateWords {
     pub rate: f64,
 }
 
-fn rate_words(a: ErrorRate) -> RateWords
-    ensures { result ≡ words_of_rate a }
-{
-    match a {
-        ErrorRate::Rate(rate) => RateWords {
-            code: 0,
-            first: 0,
-            second: 0,
-            rate: rate,
-        },
-        ErrorRate::Refused(r) => RateWords {
-            code: codes::code(r) as u32,
-            first: codes::first_value(r),
-            second: codes::second_value(r) as usize,
-            rate: 0.0,
-        },
+impl From<ErrorRate> for RateWords {
+    ghost from_gives = { λ a w. w ≡ words_of_rate a };
+
+    fn from(a: ErrorRate) -> RateWords {
+        let (told, rate) = match a {
+            ErrorRate::Rate(rate) => (DONE, rate),
+            ErrorRate::Refused(r) => (Told::from(r), 0.0),
+        };
+        RateWords {
+            code: told.code,
+            first: told.first,
+            second: told.second,
+            rate,
+        }
     }
 }
 
@@ -598,11 +604,11 @@ pub extern "C" fn pavrenni_rate(
     out: &mut [u64],
     list: &mut [u32],
     adj_offsets: &mut [u32],
-    adj: &mut [[u32; 2]],
-    tree: &mut [[u32; 2]],
-    flags: &mut [[bool; 8]],
-    stacks: &mut [[u32; 6]],
-    links: &mut [[u32; 4]],
+    adj: &mut [Neighbor],
+    tree: &mut [Node],
+    flags: &mut [Flags],
+    stacks: &mut [Stack],
+    links: &mut [Link],
     growth: &mut [f64],
     sat: &mut [bool],
     size: Size,
@@ -619,7 +625,7 @@ pub extern "C" fn pavrenni_rate(
 ) -> RateWords
     ensures { InWords words_of_rate (λ a. Rates (compared (batched.handed (lent_by size edge_u.now edge_v.now edge_weight.now edge_obs.now) rows.now shots width out.old (length list.old) (lengths_by adj_offsets.old adj.old tree.old flags.old stacks.old links.old growth.old sat.old)) truth.now true_shots true_width) a out.new) result }
 {
-    rate_words(rate::logical_error_rate(
+    RateWords::from(rate::logical_error_rate(
         size.detectors,
         size.observables,
         size.edges,

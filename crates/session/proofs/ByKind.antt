@@ -1,20 +1,17 @@
 -- A line that was read, by its kind.
 use Prim.Native.Nat.{ℕ}
-use native.Mathlib.Omega.{arith}
-use mathlib.Core.Path.{◌≡◌, refl, sym, ap, ◌∙◌, subst}
+use mathlib.Core.Path.{◌≡◌, refl, sym, subst}
 use mathlib.Core.List.{List, []}
 use lib.Ieee.{Float}
 use borrow.Author.Tests.{eq-eqb, ne_eqb}
 use Rattle.edges.specs.Tables.{Slices, slices}
 use Rattle.frames.specs.declared.State.{State}
 use Rattle.frames.specs.Input.{Input}
-use Rattle.frames.specs.Counts.{counts_of}
 use Rattle.reader.specs.Columns.{Columns, columns}
 use Rattle.session.specs.declared.Numbers.{Numbers}
-use Rattle.session.specs.declared.Told.{Told}
-use Rattle.session.specs.declared.Told.TheVariants as told
-use Rattle.session.specs.Output.{Session, Answer, quiet, at_model, at_shot, by_tests, by_kind}
-use Rattle.session.specs.Kept.{numbers_of, Keeps, graph_left, Tells, Reads, ReadSome, AnswersKind, AnswersModel, ModelBy, ModelSome, ShotBy, ShotSome}
+use Rattle.std.specs.declared.ops.ControlFlow.TheVariants.{Continue}
+use Rattle.session.specs.Output.{Session, quiet}
+use Rattle.session.specs.Kept.{Told, graph_left, Reads, ReadSome, AnswersKind, ModelBy, ModelSome, ShotBy, ShotSome}
 use Rattle.session.proofs.Fronts.{kept_on}
 use Rattle.session.proofs.Shots.{shot_left, at}
 
@@ -64,7 +61,7 @@ module _ (kind : ℕ) (n : Numbers) (state : State) (bs ds os cs cds cos es ws t
   }
 
   pub by_other : (kind ≡ 4 → ⊥) → (kind ≡ 6 → ⊥) → (was : List ℕ)
-      → AnswersKind kind n state tables graphs (told.On (record { state = state; edges = n.edges; words = n.words; shots = n.shots; failures = n.failures }) 0) graphs was was
+      → AnswersKind kind n state tables graphs (Continue (record { numbers = record { state = state; edges = n.edges; words = n.words; shots = n.shots; failures = n.failures }; written = 0 })) graphs was was
   by_other other others was = record {
     answer = λ s t r. rw (ne_eqb kind 4 other, ne_eqb kind 6 others, r.numbers, r.counts) (record { told = refl; text = refl });
     leaves = λ s t r. sym (not_model other t);

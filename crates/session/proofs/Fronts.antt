@@ -3,9 +3,8 @@ use Prim.Native.Nat.{ℕ, ◌+◌, ◌-◌, ◌*◌, ◌≤◌}
 use native.Mathlib.Omega.{arith}
 use native.Mathlib.Nat.{mul-le-mul, add_comm, suc-mul, zero-mul}
 use mathlib.Core.Path.{◌≡◌, refl, sym, ap, ap₂, ◌∙◌, subst}
-use mathlib.Core.Bool.{true}
 use mathlib.Core.List.{List, [], ◌∷◌, ◌++◌, map}
-use lib.ListN.{length, take, drop, length-append, length-drop}
+use lib.ListN.{length, take, drop, length-append}
 use lib.Seq.{take-append_seam, drop-append_seam}
 use borrow.Rule.Slice.PartMut.{mid_of}
 use Rattle.bits.specs.Rows.{words}
@@ -65,7 +64,7 @@ Left (ends r) c g = Unit {0}
 
 pub kept_on : (a : Answer) (c : Columns) (g : Slices) → Left a c g → KeptOn a c g
 kept_on (goes s text) c g k t other e = let q : s ≡ t = cc in subst (λ (x : Session). Keeps x c g) q k
-kept_on (ends r) c g k t other e = absurd (let z : ◌≡◌ {A = ℕ} 0 1 = cc in omega arith)
+kept_on (ends r) c g k t other e = cc
 
 -- ---- before the first line
 

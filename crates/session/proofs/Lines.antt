@@ -1,32 +1,28 @@
 -- A line of any bytes.
-use Prim.Native.Nat.{ℕ, ◌-◌, ◌≤◌, min}
+use Rattle.std.specs.Prelude.{Result, Ok, Err}
+use Prim.Native.Nat.{ℕ, ◌-◌, min}
 use native.Mathlib.Omega.{arith}
 use mathlib.Core.Path.{◌≡◌, refl, sym, ap, ◌∙◌}
-use mathlib.Core.Bool.{true}
-use mathlib.Core.List.{List, []}
-use lib.ListN.{length, take, drop, length-take, length-drop}
+use mathlib.Core.List.{List}
+use lib.ListN.{length, length-take, length-drop}
 use Rattle.codes.specs.declared.Refusal.{Refusal}
-use Rattle.columns.specs.Columns.{column}
-use Rattle.columns.proofs.Columns.{column_length}
+use Rattle.counts.specs.Rows.{column}
+use Rattle.counts.proofs.Rows.{column_length}
 use Rattle.hex_text.specs.Hex.{bytes_of}
 use Rattle.dem.specs.Tables.{written}
 use Rattle.edges.specs.Tables.{Slices}
 use Rattle.frames.specs.declared.State.{State}
-use Rattle.frames.specs.declared.Line.{Line}
-use Rattle.frames.specs.declared.Line.TheVariants as line
 use Rattle.frames.specs.Frames.{kind_of}
 use Rattle.frames.specs.Input.{Input, Read, next, refused, read_line}
 use Rattle.frames.specs.Counts.{counts_of, answer_of}
 use Rattle.frames.proofs.Words.{row_read, shot_read_lem}
-use Rattle.reader.specs.Columns.{Columns, columns_of, columns_at, long_enough, roomy, Holds, read_by, LineRead, columns_left}
+use Rattle.reader.specs.Columns.{Columns, columns_of, columns_at, roomy, Holds, read_by, LineRead, columns_left}
 use Rattle.reader.proofs.Laws.{laws}
-use Rattle.model_graph.specs.Answers.{Sized, Wide}
 use Rattle.replies.specs.Last.{refusal_text}
 use Rattle.session.specs.declared.Numbers.{Numbers}
-use Rattle.session.specs.declared.Told.{Told}
-use Rattle.session.specs.declared.Told.TheVariants as told
-use Rattle.session.specs.Output.{Session, Answer, ends, by_kind, by_read, answer_line}
-use Rattle.session.specs.Kept.{numbers_of, Sizes, Keeps, Kept, Tells, Reads, ReadSome, AnswersKind, Answers}
+use Rattle.std.specs.declared.ops.ControlFlow.TheVariants.{Break}
+use Rattle.session.specs.Output.{Session, ends, answer_line}
+use Rattle.session.specs.Kept.{Told, numbers_of, Sizes, Keeps, Kept, Reads, ReadSome, AnswersKind, Answers}
 use Rattle.session.proofs.Fronts.{kept_on}
 
 -- ---- tables of the same lengths
@@ -79,8 +75,8 @@ sizes_same c d g e z = record {
 
 -- ---- the line as it was read
 
-no_next : {A : Type 0} {m : State} {x : Refusal} → line.Next m ≡ line.Refused x → A
-no_next e = let z : ◌≡◌ {A = ℕ} 0 1 = cc in absurd (omega arith)
+no_next : {A : Type 0} {m : State} {x : Refusal} → ◌≡◌ {A = Result State Refusal} (Ok m) (Err x) → A
+no_next e = cc
 
 module _ (text : List ℕ) (n : Numbers) (c : Columns) (g : Slices) (kind : ℕ) (k : kind ≡ kind_of (bytes_of text)) where
   -- what was read with it
@@ -93,14 +89,14 @@ module _ (text : List ℕ) (n : Numbers) (c : Columns) (g : Slices) (kind : ℕ)
     holds : Holds s.input n.state c
     holds = record { counts = ap (λ (m : Numbers). m.state) e; within = rw e keeps.within; tables = keeps.tables }
 
-    module _ (r : Line) (d : Columns) (l : LineRead text n.state c r d) where
+    module _ (r : Result State Refusal) (d : Columns) (l : LineRead text n.state c r d) where
       answer_is : r ≡ answer_of (read_line s.input text)
       answer_is = l.answer s.input holds sizes.room
 
-      took_by : (m : State) → r ≡ line.Next m → Same c d → (x : Read) → read_line s.input text ≡ x → Took s m d
+      took_by : (m : State) → r ≡ Ok m → Same c d → (x : Read) → read_line s.input text ≡ x → Took s m d
       took_by m p same (refused y) q = no_next (sym p ∙ answer_is ∙ ap answer_of q)
       took_by m p same (next t) q =
-          let counts : m ≡ counts_of t = let z : line.Next m ≡ line.Next (counts_of t) = sym p ∙ answer_is ∙ ap answer_of q in cc in
+          let counts : m ≡ counts_of t = let z : ◌≡◌ {A = Result State Refusal} (Ok m) (Ok (counts_of t)) = sym p ∙ answer_is ∙ ap answer_of q in cc in
           let tables : d ≡ columns_at t c = l.tables s.input holds sizes.room ∙ ap (λ (x : Read). columns_at (read_by s.input x) c) q in
           let h = laws.later s.input t c d text q tables in
           record {
@@ -120,33 +116,33 @@ module _ (text : List ℕ) (n : Numbers) (c : Columns) (g : Slices) (kind : ℕ)
             read = q;
           }
 
-      took : (m : State) → r ≡ line.Next m → Same c d → Took s m d
+      took : (m : State) → r ≡ Ok m → Same c d → Took s m d
       took m p same = took_by m p same (read_line s.input text) refl
 
-      refused_is : (y : Refusal) → r ≡ line.Refused y → (x : Read) → read_line s.input text ≡ x → x ≡ refused y
+      refused_is : (y : Refusal) → r ≡ Err y → (x : Read) → read_line s.input text ≡ x → x ≡ refused y
       refused_is y p (next t) q = no_next (sym (ap answer_of q) ∙ sym answer_is ∙ p)
-      refused_is y p (refused u) q = let z : line.Refused y ≡ line.Refused u = sym p ∙ answer_is ∙ ap answer_of q in let same : y ≡ u = cc in rw same refl
+      refused_is y p (refused u) q = let z : ◌≡◌ {A = Result State Refusal} (Err y) (Err u) = sym p ∙ answer_is ∙ ap answer_of q in let same : y ≡ u = cc in rw same refl
 
   -- ---- the contract
 
-  module _ (r : Line) (d : Columns) (l : LineRead text n.state c r d) where
-    pub line_some : Kept n c g → (m : State) → r ≡ line.Next m → Same c d → ReadSome kind n m d g
+  module _ (r : Result State Refusal) (d : Columns) (l : LineRead text n.state c r d) where
+    pub line_some : Kept n c g → (m : State) → r ≡ Ok m → Same c d → ReadSome kind n m d g
     line_some p m e same =
         let t = took p.session p.numbers p.keeps p.sizes r d l m e same in
         record { session = p.session; input = t.input; reads = t.reads }
 
-    pub line_refused : (y : Refusal) → r ≡ line.Refused y → (z : Told) (was out : List ℕ) → (z ≡ told.Ended (length (refusal_text y))) × (out ≡ written (refusal_text y) was)
+    pub line_refused : (y : Refusal) → r ≡ Err y → (z : Told) (was out : List ℕ) → (z ≡ Break (length (refusal_text y))) × (out ≡ written (refusal_text y) was)
         → Answers text n c g z d g was out
     unfolding answer_line
     line_refused y e z was out p = record {
       answer = λ s q keeps sizes. rw (refused_is s q keeps sizes r d l y e (read_line s.input text) refl) (record { told = p.0; text = p.1 });
       columns = λ s q keeps sizes.
-          rw (refused_is s q keeps sizes r d l y e (read_line s.input text) refl) (l.leaves ∙ ap (λ (x : Line). columns_left x text n.state c) e);
+          rw (refused_is s q keeps sizes r d l y e (read_line s.input text) refl) (l.leaves ∙ ap (λ (x : Result State Refusal). columns_left x text n.state c) e);
       slices = λ s q keeps sizes. rw (refused_is s q keeps sizes r d l y e (read_line s.input text) refl) refl;
       keeps = λ s q keeps sizes. rw (refused_is s q keeps sizes r d l y e (read_line s.input text) refl) (kept_on (ends y) d g tt);
     }
 
-    pub line_next : (m : State) → r ≡ line.Next m → Same c d → (z : Told) (left : Slices) (was out : List ℕ) → AnswersKind kind n m d g z left was out → Answers text n c g z d left was out
+    pub line_next : (m : State) → r ≡ Ok m → Same c d → (z : Told) (left : Slices) (was out : List ℕ) → AnswersKind kind n m d g z left was out → Answers text n c g z d left was out
     unfolding answer_line
     line_next m e same z left was out a = record {
       answer = λ s q keeps sizes.

@@ -1,19 +1,18 @@
 -- 04: the graph of the model.
+use Rattle.std.specs.Prelude.{Result, Ok, Err}
 use Prim.Native.Nat.{ℕ, ◌*◌, ◌≤◌}
 use native.Mathlib.Omega.{arith}
 use mathlib.Core.Path.{◌≡◌, refl, sym, ap, ◌∙◌, subst}
-use mathlib.Core.List.{List, [], map}
-use lib.ListN.{length, take, length-map}
+use mathlib.Core.List.{List, map}
+use lib.ListN.{length, length-map}
 use lib.Seq.{take_all}
 use lib.Ieee.{Float}
 use Rattle.codes.specs.declared.Refusal.{Refusal}
-use Rattle.columns.specs.Columns.{column}
-use Rattle.columns.proofs.Columns.{column_length}
+use Rattle.counts.specs.Rows.{column}
+use Rattle.counts.proofs.Rows.{column_length}
 use Rattle.bits.specs.Rows.{words}
 use Rattle.dem.specs.Tables.{written}
-use Rattle.graph.specs.declared.Compiled.{Compiled}
-use Rattle.graph.specs.declared.Compiled.TheVariants as compiled
-use Rattle.edges.specs.Compile.{Edge, Edges, into, refused, obs_row, graph_by}
+use Rattle.edges.specs.Compile.{Edges, into, refused, graph_by}
 use Rattle.edges.specs.Tables.{Slices, slices, flat}
 use Rattle.graph.specs.Outcome.{answer_of, table_left, Compiles}
 use Rattle.frames.specs.declared.State.{State}
@@ -26,10 +25,9 @@ use Rattle.model_graph.specs.Answers.{held, GraphRead, GraphBy}
 use Rattle.model_graph.proofs.Answers.{graph_by_lem}
 use Rattle.replies.specs.Last.{refusal_text}
 use Rattle.session.specs.declared.Numbers.{Numbers}
-use Rattle.session.specs.declared.Told.{Told}
-use Rattle.session.specs.declared.Told.TheVariants as told
-use Rattle.session.specs.Output.{Session, Answer, at_model, compiled as compiledBy}
-use Rattle.session.specs.Kept.{numbers_of, Sizes, GraphAt, Keeps, told_of, text_of, slices_by, graph_left, Tells, Reads, ReadSome, AnswersModel, ModelBy, ModelSome}
+use Rattle.std.specs.declared.ops.ControlFlow.TheVariants.{Continue, Break}
+use Rattle.session.specs.Output.{Session, at_model, compiled as compiledBy}
+use Rattle.session.specs.Kept.{Told, numbers_of, slices_by, graph_left, Tells, Reads, ModelBy, ModelSome}
 use Rattle.session.proofs.Fronts.{again, written_fits, flat_long, Left, kept_on}
 
 abbrev edges_read : Input → Edges
@@ -42,14 +40,14 @@ graph_left_lem : (t : Input) (g : Slices) → slices_by t.detectors t.observable
 unfolding graph_left
 graph_left_lem t g = refl
 
-no_edges : {A : Type 0} {k : ℕ} {x : Refusal} → compiled.Edges k ≡ compiled.Refused x → A
-no_edges e = let z : ◌≡◌ {A = ℕ} 0 1 = cc in absurd (omega arith)
+no_edges : {A : Type 0} {k : ℕ} {x : Refusal} → ◌≡◌ {A = Result ℕ Refusal} (Ok k) (Err x) → A
+no_edges e = cc
 
 module _ (s : Session) (t : Input) (c : Columns) (g : Slices) (r : Reads s t 4 (numbers_of s) (counts_of t) c g) where
   holds : Holds t (counts_of t) c
   holds = record { counts = refl; within = r.within; tables = r.tables }
 
-  module _ (a : Compiled) (left : Slices) (b : GraphRead (counts_of t) c g a left) where
+  module _ (a : Result ℕ Refusal) (left : Slices) (b : GraphRead (counts_of t) c g a left) where
     compiles : Compiles t.detectors t.observables (edges_read t) a g left
     compiles = subst (λ (e : Edges). Compiles t.detectors t.observables e a g left) (b.read t holds r.sizes.sized r.sizes.wide) b.compiles
 
@@ -63,12 +61,12 @@ module _ (s : Session) (t : Input) (c : Columns) (g : Slices) (r : Reads s t 4 (
     left_is : left.edge_p ≡ g.edge_p → left ≡ graph_left 4 t g
     left_is p = slices_eq _ _ _ _ _ _ _ _ _ _ compiles.ends compiles.others compiles.weights compiles.rows p ∙ graph_left_lem t g
 
-    module _ (k : ℕ) (e : a ≡ compiled.Edges k) (same : length left.edge_u ≡ length g.edge_u) where
+    module _ (k : ℕ) (e : a ≡ Ok k) (same : length left.edge_u ≡ length g.edge_u) where
       few_by : (x : Edges) → edges_read t ≡ x → k ≤ 1024
       unfolding answer_of table_left graph_by
       few_by (refused y) q = no_edges (sym e ∙ answer_is ∙ ap answer_of q)
       few_by (into es) q =
-          let n : k ≡ length es = let z : compiled.Edges k ≡ compiled.Edges (length es) = sym e ∙ answer_is ∙ ap answer_of q in cc in
+          let n : k ≡ length es = let z : ◌≡◌ {A = Result ℕ Refusal} (Ok k) (Ok (length es)) = sym e ∙ answer_is ∙ ap answer_of q in cc in
           let fits = written_fits (map (λ e. e.u) es) g.edge_u left.edge_u (compiled_to (into es) q).ends same in
           omega (arith, n, fits, length-map es (λ e. e.u), r.sizes.few)
 
@@ -82,15 +80,15 @@ module _ (s : Session) (t : Input) (c : Columns) (g : Slices) (r : Reads s t 4 (
       numbers_eq w j v p q = rw (p, q) refl
 
       on_by : (w : ℕ) (was : List ℕ) → w ≡ k * words t.observables → (x : Edges) → edges_read t ≡ x
-          → Tells (compiledBy s t x) (told.On (numbers w) 0) was was × Left (compiledBy s t x) c left
+          → Tells (compiledBy s t x) (Continue (record { numbers = numbers w; written = 0 })) was was × Left (compiledBy s t x) c left
       unfolding answer_of table_left graph_by
       on_by w was h (refused y) q = no_edges (sym e ∙ answer_is ∙ ap answer_of q)
       on_by w was h (into es) q =
-          let n : k ≡ length es = let z : compiled.Edges k ≡ compiled.Edges (length es) = sym e ∙ answer_is ∙ ap answer_of q in cc in
+          let n : k ≡ length es = let z : ◌≡◌ {A = Result ℕ Refusal} (Ok k) (Ok (length es)) = sym e ∙ answer_is ∙ ap answer_of q in cc in
           let tables = compiled_to (into es) q in
           let g' = graph_by t.detectors t.observables es in (
             record {
-              told = ap (λ (m : Numbers). told.On m 0) (numbers_eq w _ _ (n ∙ sym (length-map es (λ e. e.u)))
+              told = ap (λ (m : Numbers). Continue (record { numbers = m; written = 0 })) (numbers_eq w _ _ (n ∙ sym (length-map es (λ e. e.u)))
                   (h ∙ ap (λ (j : ℕ). j * words t.observables) n ∙ sym (flat_long t.observables es)));
               text = refl;
             },
@@ -111,18 +109,18 @@ module _ (s : Session) (t : Input) (c : Columns) (g : Slices) (r : Reads s t 4 (
             },
           )
 
-    refused_by : (y : Refusal) → a ≡ compiled.Refused y → (x : Edges) → edges_read t ≡ x → (was : List ℕ) (z : Told) (out : List ℕ) → z ≡ told.Ended (length (refusal_text y)) → out ≡ written (refusal_text y) was
+    refused_by : (y : Refusal) → a ≡ Err y → (x : Edges) → edges_read t ≡ x → (was : List ℕ) (z : Told) (out : List ℕ) → z ≡ Break (length (refusal_text y)) → out ≡ written (refusal_text y) was
         → Tells (compiledBy s t x) z was out × Left (compiledBy s t x) c left
     unfolding answer_of
     refused_by y e (into es) q was z out p o = no_edges (sym (ap answer_of q) ∙ sym answer_is ∙ e)
     refused_by y e (refused u) q was z out p o =
-        let same : y ≡ u = let v : compiled.Refused y ≡ compiled.Refused u = sym e ∙ answer_is ∙ ap answer_of q in cc in
+        let same : y ≡ u = let v : ◌≡◌ {A = Result ℕ Refusal} (Err y) (Err u) = sym e ∙ answer_is ∙ ap answer_of q in cc in
         (record { told = rw (← same) p; text = rw (← same) o }, tt)
 
 -- ---- the contract
 
 -- no row lies past those that are held
-pub whole_rows : (n : Numbers) (state : State) (bs : List ℕ) (rows : List (List ℕ)) (es : List ℕ) (g : Slices) (a : Compiled) (left : Slices)
+pub whole_rows : (n : Numbers) (state : State) (bs : List ℕ) (rows : List (List ℕ)) (es : List ℕ) (g : Slices) (a : Result ℕ Refusal) (left : Slices)
     → ModelSome n state bs (column 0 0 rows) (column 0 1 rows) (column 0 2 rows) (column 0 3 rows) (column 0 4 rows) es g
     → GraphBy state bs (held 0 rows) (held 1 rows) (held 2 rows) (held 3 rows) (held 4 rows) es g a left
     → GraphBy state bs (column 0 0 rows) (column 0 1 rows) (column 0 2 rows) (column 0 3 rows) (column 0 4 rows) es g a left
@@ -133,7 +131,7 @@ whole_rows n state bs rows es g a left m =
     all : length rows ≤ 1024 → (k : ℕ) → held k rows ≡ column 0 k rows
     all few k = take_all 1024 (column 0 k rows) (omega (arith, few, column_length 0 k rows))
 
-module _ (n : Numbers) (state : State) (bs ds os cs cds cos es : List ℕ) (g : Slices) (a : Compiled) (left : Slices) (b : GraphBy state bs ds os cs cds cos es g a left) where
+module _ (n : Numbers) (state : State) (bs ds os cs cds cos es : List ℕ) (g : Slices) (a : Result ℕ Refusal) (left : Slices) (b : GraphBy state bs ds os cs cds cos es g a left) where
   -- the numbers of a session are those of its definition
   at : (s : Session) (t : Input) (ws ts : List ℕ) → Reads s t 4 n state (columns bs ds os cs cds cos es ws ts) g
       → Reads s t 4 (numbers_of s) (counts_of t) (columns bs ds os cs cds cos es ws ts) g
@@ -153,7 +151,7 @@ module _ (n : Numbers) (state : State) (bs ds os cs cds cos es : List ℕ) (g : 
   graph_at : (s : Session) (t : Input) (ws ts : List ℕ) → Reads s t 4 n state (columns bs ds os cs cds cos es ws ts) g → GraphRead (counts_of t) (columns bs ds os cs cds cos es ws ts) g a left
   graph_at s t ws ts r = rw r.counts at (b ws ts)
 
-  pub model_few : ModelSome n state bs ds os cs cds cos es g → (k : ℕ) → a ≡ compiled.Edges k → length left.edge_u ≡ length g.edge_u → (k ≤ 1024) × (state.observables ≤ 128)
+  pub model_few : ModelSome n state bs ds os cs cds cos es g → (k : ℕ) → a ≡ Ok k → length left.edge_u ≡ length g.edge_u → (k ≤ 1024) × (state.observables ≤ 128)
   model_few m k e same =
       let r = m.read.reads in
       let s = m.read.session in
@@ -165,12 +163,12 @@ module _ (n : Numbers) (state : State) (bs ds os cs cds cos es : List ℕ) (g : 
   leaves : left.edge_p ≡ g.edge_p → (ws ts : List ℕ) (s : Session) (t : Input) → Reads s t 4 n state (columns bs ds os cs cds cos es ws ts) g → left ≡ graph_left 4 t g
   leaves p ws ts s t r = left_is s t (columns bs ds os cs cds cos es ws ts) g (at s t ws ts r) a left (graph_at s t ws ts r) p
 
-  pub model_on : (k w : ℕ) (was : List ℕ) → left.edge_p ≡ g.edge_p → a ≡ compiled.Edges k → length left.edge_u ≡ length g.edge_u → w ≡ k * words state.observables
-      → ModelBy n state bs ds os cs cds cos es g (told.On (record { state = state; edges = k; words = w; shots = n.shots; failures = n.failures }) 0) left was was
+  pub model_on : (k w : ℕ) (was : List ℕ) → left.edge_p ≡ g.edge_p → a ≡ Ok k → length left.edge_u ≡ length g.edge_u → w ≡ k * words state.observables
+      → ModelBy n state bs ds os cs cds cos es g (Continue (record { numbers = record { state = state; edges = k; words = w; shots = n.shots; failures = n.failures }; written = 0 })) left was was
   unfolding at_model
   model_on k w was p e same h ws ts =
       let both : (s : Session) (t : Input) → Reads s t 4 n state (columns bs ds os cs cds cos es ws ts) g
-      → Tells (at_model s t) (told.On (record { state = state; edges = k; words = w; shots = n.shots; failures = n.failures }) 0) was was × Left (at_model s t) (columns bs ds os cs cds cos es ws ts) left
+      → Tells (at_model s t) (Continue (record { numbers = record { state = state; edges = k; words = w; shots = n.shots; failures = n.failures }; written = 0 })) was was × Left (at_model s t) (columns bs ds os cs cds cos es ws ts) left
       = λ s t r. rw (r.numbers, r.counts) (on_by s t (columns bs ds os cs cds cos es ws ts) g (at s t ws ts r) a left (graph_at s t ws ts r) k e same w was (rw r.counts at h) (edges_read t) refl) in
       record {
         answer = λ s t r. (both s t r).0;
@@ -178,7 +176,7 @@ module _ (n : Numbers) (state : State) (bs ds os cs cds cos es : List ℕ) (g : 
         keeps = λ s t r. kept_on (compiledBy s t (edges_read t)) (columns bs ds os cs cds cos es ws ts) left (both s t r).1;
       }
 
-  pub model_refused : (y : Refusal) (was out : List ℕ) (z : Told) → left.edge_p ≡ g.edge_p → a ≡ compiled.Refused y → (z ≡ told.Ended (length (refusal_text y))) × (out ≡ written (refusal_text y) was)
+  pub model_refused : (y : Refusal) (was out : List ℕ) (z : Told) → left.edge_p ≡ g.edge_p → a ≡ Err y → (z ≡ Break (length (refusal_text y))) × (out ≡ written (refusal_text y) was)
       → ModelBy n state bs ds os cs cds cos es g z left was out
   unfolding at_model
   model_refused y was out z same e p ws ts =

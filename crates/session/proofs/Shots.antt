@@ -1,10 +1,11 @@
 -- 06: the lines of a shot.
+use Rattle.std.specs.Prelude.{Result, Ok, Err}
 use Prim.Native.Nat.{ℕ, ◌+◌, ◌-◌, ◌<◌, ◌≤◌}
 use native.Mathlib.Omega.{arith}
 use mathlib.Core.Path.{◌≡◌, refl, sym, ap, ◌∙◌}
 use mathlib.Core.Bool.{Bool, true, false}
 use mathlib.Core.List.{List, []}
-use lib.ListN.{length, take, drop, length-take}
+use lib.ListN.{length}
 use lib.Dec.{ltb}
 use lib.Ieee.{Float}
 use borrow.Author.Tests.{lt-ltb, le-ltb, ltb-true}
@@ -21,15 +22,13 @@ use Rattle.frames.proofs.FrameKinds.{held_of}
 use Rattle.reader.specs.Columns.{Columns, columns, columns_at}
 use Rattle.reader.proofs.Stored.{room_of_lem}
 use Rattle.shot_reply.specs.declared.Reply.{Reply}
-use Rattle.shot_reply.specs.declared.Reply.TheVariants as reply
 use Rattle.shot_reply.specs.Outcome.{Outcome, told, refused, shot_outcome}
-use Rattle.shot_reply.specs.Replied.{Replied, reply_of, text_left}
+use Rattle.shot_reply.specs.Replied.{Replied}
 use Rattle.replies.specs.Last.{refusal_text}
 use Rattle.session.specs.declared.Numbers.{Numbers}
-use Rattle.session.specs.declared.Told.{Told}
-use Rattle.session.specs.declared.Told.TheVariants as tolds
-use Rattle.session.specs.Output.{Session, Answer, max_count, one, decoded, shot_read, counted, at_shot}
-use Rattle.session.specs.Kept.{numbers_of, Sizes, GraphAt, Keeps, told_of, text_of, KeptOn, Tells, Reads, ReadSome, ShotBy, ShotSome}
+use Rattle.std.specs.declared.ops.ControlFlow.TheVariants.{Continue, Break}
+use Rattle.session.specs.Output.{Session, max_count, one, decoded, shot_read, counted, at_shot}
+use Rattle.session.specs.Kept.{Told, numbers_of, KeptOn, Tells, Reads, ShotBy, ShotSome}
 use Rattle.session.proofs.Fronts.{front_fits, front_is, Left, kept_on}
 
 -- ---- one more
@@ -37,9 +36,6 @@ use Rattle.session.proofs.Fronts.{front_fits, front_is, Left, kept_on}
 one_few : (b : Bool) → one b ≤ 1
 one_few true = omega arith
 one_few false = omega arith
-
-no_decoded : {A : Type 0} {w : ℕ} {f : Bool} {x : Refusal} → reply.Decoded w f ≡ reply.Refused x → A
-no_decoded e = let z : ◌≡◌ {A = ℕ} 0 1 = cc in absurd (omega arith)
 
 module _ (s : Session) (t : Input) (c : Columns) (g : Slices) (r : Reads s t 6 (numbers_of s) (counts_of t) c g) where
   -- a shot leaves the tables as they are
@@ -62,37 +58,36 @@ module _ (s : Session) (t : Input) (c : Columns) (g : Slices) (r : Reads s t 6 (
   unfolding at_shot
   shot_left = kept_on (counted (ltb s.shots max_count) s t) c g (left_counted (ltb s.shots max_count) refl)
 
-  full : s.shots ≡ max_count → (was out : List ℕ) (z : Told) → (z ≡ tolds.Ended (length (refusal_text Limit))) × (out ≡ written (refusal_text Limit) was) → Tells (at_shot s t) z was out
+  full : s.shots ≡ max_count → (was out : List ℕ) (z : Told) → (z ≡ Break (length (refusal_text Limit))) × (out ≡ written (refusal_text Limit) was) → Tells (at_shot s t) z was out
   unfolding at_shot
   full e was out z p = rw (le-ltb s.shots max_count (omega (arith, e))) (record { told = p.0; text = p.1 })
 
   module _ (few : s.shots < max_count) (was mid : List ℕ) where
-    on_by : (w : ℕ) (f : Bool) (x : Outcome) → Replied x (reply.Decoded w f) was mid
-        → (z : Told) → z ≡ tolds.On (record { state = counts_of t; edges = length s.graph.edge_u; words = length (flat s.graph.edge_obs); shots = s.shots + 1; failures = s.failures + one f }) w
+    on_by : (p : Reply) (x : Outcome) → Replied x (Ok p) was mid
+        → (z : Told) → z ≡ Continue (record { numbers = record { state = counts_of t; edges = length s.graph.edge_u; words = length (flat s.graph.edge_obs); shots = s.shots + 1; failures = s.failures + one p.failed }; written = p.written })
         → Tells (decoded s t x) z was mid
-    on_by w f (refused y) p z e = no_decoded p.answer
-    on_by w f (told text v) p z e =
-        let q : reply.Decoded w f ≡ reply.Decoded (length text) v = p.answer in
-        let a : w ≡ length text = cc in
-        let b : f ≡ v = cc in
-        record { told = rw (a, b) at e; text = p.text }
+    on_by p (refused y) r z e = let h : ◌≡◌ {A = Result Reply Refusal} (Ok p) (Err y) = r.answer in cc
+    on_by p (told text v) r z e =
+        let h : ◌≡◌ {A = Result Reply Refusal} (Ok p) (Ok (record { written = length text; failed = v })) = r.answer in
+        let same : p ≡ record { written = length text; failed = v } = cc in
+        record { told = rw same at e; text = r.text }
 
-    refused_by : (y : Refusal) (x : Outcome) → Replied x (reply.Refused y) was mid → (z : Told) (out : List ℕ) → (z ≡ tolds.Ended (length (refusal_text y))) × (out ≡ written (refusal_text y) mid)
+    refused_by : (y : Refusal) (x : Outcome) → Replied x (Err y) was mid → (z : Told) (out : List ℕ) → (z ≡ Break (length (refusal_text y))) × (out ≡ written (refusal_text y) mid)
         → Tells (decoded s t x) z was out
-    refused_by y (told text v) p z out e = no_decoded (sym p.answer)
-    refused_by y (refused u) p z out e =
-        let q : reply.Refused y ≡ reply.Refused u = p.answer in
+    refused_by y (told text v) r z out e = let h : ◌≡◌ {A = Result Reply Refusal} (Err y) (Ok (record { written = length text; failed = v })) = r.answer in cc
+    refused_by y (refused u) r z out e =
+        let h : ◌≡◌ {A = Result Reply Refusal} (Err y) (Err u) = r.answer in
         let a : y ≡ u = cc in
-        let m : mid ≡ was = p.text in
+        let m : mid ≡ was = r.text in
         record { told = rw (← a) e.0; text = rw (← a, ← m) e.1 }
 
-    pub shot_on : (w : ℕ) (f : Bool) → Replied (shot_read s.graph t) (reply.Decoded w f) was mid
-        → (z : Told) → z ≡ tolds.On (record { state = counts_of t; edges = length s.graph.edge_u; words = length (flat s.graph.edge_obs); shots = s.shots + 1; failures = s.failures + one f }) w
+    pub shot_on : (p : Reply) → Replied (shot_read s.graph t) (Ok p) was mid
+        → (z : Told) → z ≡ Continue (record { numbers = record { state = counts_of t; edges = length s.graph.edge_u; words = length (flat s.graph.edge_obs); shots = s.shots + 1; failures = s.failures + one p.failed }; written = p.written })
         → Tells (at_shot s t) z was mid
     unfolding at_shot
-    shot_on w f p z e = rw (lt-ltb s.shots max_count few) (on_by w f (shot_read s.graph t) p z e)
+    shot_on p r z e = rw (lt-ltb s.shots max_count few) (on_by p (shot_read s.graph t) r z e)
 
-    pub shot_refused : (y : Refusal) → Replied (shot_read s.graph t) (reply.Refused y) was mid → (z : Told) (out : List ℕ) → (z ≡ tolds.Ended (length (refusal_text y))) × (out ≡ written (refusal_text y) mid)
+    pub shot_refused : (y : Refusal) → Replied (shot_read s.graph t) (Err y) was mid → (z : Told) (out : List ℕ) → (z ≡ Break (length (refusal_text y))) × (out ≡ written (refusal_text y) mid)
         → Tells (at_shot s t) z was out
     unfolding at_shot
     shot_refused y p z out e = rw (lt-ltb s.shots max_count few) (refused_by y (shot_read s.graph t) p z out e)
@@ -193,7 +188,7 @@ module _ (n : Numbers) (state : State) (ws ts u v : List ℕ) (weight : List Flo
 
   -- ---- the contract
 
-  pub by_full : n.shots ≡ 4294967295 → (was out : List ℕ) (z : Told) → (z ≡ tolds.Ended (length (refusal_text Limit))) × (out ≡ written (refusal_text Limit) was)
+  pub by_full : n.shots ≡ 4294967295 → (was out : List ℕ) (z : Told) → (z ≡ Break (length (refusal_text Limit))) × (out ≡ written (refusal_text Limit) was)
       → ShotBy n state ws ts (slices u v weight obs []) z was out
   by_full e was out z p s t bs ds os cs cds cos es r =
       full s t _ _ (at s t bs ds os cs cds cos es r) (sym (ap (λ (m : Numbers). m.shots) r.numbers) ∙ e) was out z p
@@ -207,14 +202,14 @@ module _ (n : Numbers) (state : State) (ws ts u v : List ℕ) (weight : List Flo
       case_lt k l less = omega (arith, less)
 
   module _ (rows truths : ℕ) (p : rows ≡ words state.detectors) (q : truths ≡ words state.observables) (less : n.shots ≡ 4294967295 → ⊥) (was mid : List ℕ) where
-    pub by_decoded_lem : (w : ℕ) (f : Bool) → Replied (cut rows truths) (reply.Decoded w f) was mid
-        → (z : Told) → z ≡ tolds.On (record { state = state; edges = n.edges; words = n.words; shots = n.shots + 1; failures = n.failures + one f }) w
+    pub by_decoded_lem : (x : Reply) → Replied (cut rows truths) (Ok x) was mid
+        → (z : Told) → z ≡ Continue (record { numbers = record { state = state; edges = n.edges; words = n.words; shots = n.shots + 1; failures = n.failures + one x.failed }; written = x.written })
         → ShotBy n state ws ts (slices u v weight obs []) z was mid
-    by_decoded_lem w f a z e s t bs ds os cs cds cos es r =
-        shot_on s t _ _ (at s t bs ds os cs cds cos es r) (fewer s r.numbers r.shots less) was mid w f
+    by_decoded_lem x a z e s t bs ds os cs cds cos es r =
+        shot_on s t _ _ (at s t bs ds os cs cds cos es r) (fewer s r.numbers r.shots less) was mid x
         (rw (cut_is s t bs ds os cs cds cos es r rows truths p q) at a) z (rw (r.numbers, r.counts) at e)
 
-    pub by_refused : (y : Refusal) → Replied (cut rows truths) (reply.Refused y) was mid → (z : Told) (out : List ℕ) → (z ≡ tolds.Ended (length (refusal_text y))) × (out ≡ written (refusal_text y) mid)
+    pub by_refused : (y : Refusal) → Replied (cut rows truths) (Err y) was mid → (z : Told) (out : List ℕ) → (z ≡ Break (length (refusal_text y))) × (out ≡ written (refusal_text y) mid)
         → ShotBy n state ws ts (slices u v weight obs []) z was out
     by_refused y a z out e s t bs ds os cs cds cos es r =
         shot_refused s t _ _ (at s t bs ds os cs cds cos es r) (fewer s r.numbers r.shots less) was mid y

@@ -1,6 +1,8 @@
 -- What the numbers and the tables of a session stand for, and what the functions promise of them.
 use Rattle.std.specs.Prelude.{ℕ, ◌≤◌, ◌≡◌, true, false, cond, List, pos, eqb, length}
 use Rattle.std.specs.Float.{fin}
+use Rattle.std.specs.declared.ops.ControlFlow.{ControlFlow}
+use Rattle.std.specs.declared.ops.ControlFlow.TheVariants.{Continue, Break}
 use Rattle.hex_text.specs.Hex.{bytes_of}
 use Rattle.dem.specs.Tables.{written}
 use Rattle.steps.specs.Graph.{Graph}
@@ -17,8 +19,7 @@ use Rattle.model_graph.specs.Graph.{graph_read}
 use Rattle.model_graph.specs.Answers.{Sized, Wide}
 use Rattle.replies.specs.Last.{refusal_text}
 use Rattle.session.specs.declared.Numbers.{Numbers}
-use Rattle.session.specs.declared.Told.{Told}
-use Rattle.session.specs.declared.Told.TheVariants as told
+use Rattle.session.specs.declared.On.{On}
 use Rattle.session.specs.Output.{Session, Answer, goes, ends, max_count, at_model, at_shot, by_kind, answer_line}
 
 -- ---- numbers and tables
@@ -67,10 +68,14 @@ pub record Kept (n : Numbers) (c : Columns) (g : Slices) : Type 0 where
 
 -- ---- answers
 
+-- what a line is answered with: the numbers after it and how many bytes were written, or how many bytes a refusal has
+abbrev pub Told : Type 0
+Told = ControlFlow ℕ On
+
 -- an answer of the definition, told
 abbrev pub told_of : Answer → Told
-told_of (goes t text) = told.On (numbers_of t) (length text)
-told_of (ends r) = told.Ended (length (refusal_text r))
+told_of (goes t text) = Continue (record { numbers = numbers_of t; written = length text })
+told_of (ends r) = Break (length (refusal_text r))
 
 abbrev pub text_of : Answer → List ℕ
 text_of (goes t text) = text

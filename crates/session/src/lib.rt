@@ -2,7 +2,7 @@
 #![tactic(auto)]
 
 ghost use Rattle.std.specs.Prelude.{◌≡◌, [], ◌+◌, ◌*◌, ◌≤◌, ◌<◌, length};
-ghost use Rattle.columns.specs.Columns.{column};
+ghost use Rattle.counts.specs.Rows.{column};
 ghost use Rattle.bits.specs.Rows.{words};
 ghost use Rattle.hex_text.specs.Hex.{bytes_of};
 ghost use Rattle.dem.specs.Tables.{written};
@@ -11,14 +11,14 @@ ghost use Rattle.frames.specs.Frames.{kind_of};
 ghost use Rattle.frames.specs.Input.{at_end};
 ghost use Rattle.reader.specs.Columns.{columns_of};
 ghost use Rattle.replies.specs.Last.{refusal_text, last_text};
-ghost use Rattle.session.specs.declared.Told.TheVariants as told;
+ghost use Rattle.std.specs.declared.ops.ControlFlow.TheVariants.{Break, Continue};
 ghost use Rattle.session.specs.Output.{begin, one, longest_reply};
 ghost use Rattle.session.specs.Kept.{numbers_of, Kept, ReadSome, AnswersKind, ModelBy, ModelSome, ShotBy, ShotSome, Answers};
 
 use codes::Refusal;
-use frames::{Line, State};
-use graph::Compiled;
+use frames::State;
 use shot_reply::Reply;
+use std::ops::ControlFlow;
 
 // The numbers of a session: of what was read, of the graph from 04 on, of the shots.
 #[derive(Clone, Copy)]
@@ -31,13 +31,15 @@ pub struct Numbers {
     pub failures: u32,
 }
 
+// The numbers after a line, and how many bytes were written.
 #[derive(Clone, Copy)]
-pub enum Told {
-    // the numbers after the line, and how many bytes were written
-    On { numbers: Numbers, written: usize },
-    // a refusal was written, which ends the output
-    Ended { written: usize },
+pub struct On {
+    pub numbers: Numbers,
+    pub written: usize,
 }
+
+// Or how many bytes a refusal has, which ends the output.
+pub type Told = ControlFlow<usize, On>;
 
 // The most bytes that a line is answered with: 85 with two words, and 86 with 256 edges.
 pub const LONGEST_REPLY: usize = 1066;
@@ -49,9 +51,8 @@ const MAX_SHOTS: u32 = 4294967295;
 pub fn begin() -> Numbers
     ensures { result ≡ numbers_of begin }
 {
-    let state = frames::start();
     Numbers {
-        state: state,
+        state: frames::start(),
         edges: 0,
         words: 0,
         shots: 0,
@@ -62,10 +63,9 @@ pub fn begin() -> Numbers
 // ff and the code.
 fn refuse(r: Refusal, out: &mut [u8]) -> Told
     requires { 5 ≤ length out.old }
-    ensures { (result ≡ told.Ended (length (refusal_text r))) × (out.new ≡ written (refusal_text r) out.old) }
+    ensures { (result ≡ Break (length (refusal_text r))) × (out.new ≡ written (refusal_text r) out.old) }
 {
-    let written = replies::write_refusal(r, out);
-    Told::Ended { written }
+    ControlFlow::Break(replies::write_refusal(r, out))
 }
 
 // ---- 04
@@ -105,19 +105,19 @@ fn answer_model(
         edge_obs,
     );
     match compiled {
-        Compiled::Refused(r) => refuse(r, out),
-        Compiled::Edges(edges) => {
+        Err(r) => refuse(r, out),
+        Ok(edges) => {
             let words = words_of(edges, state.observables);
-            Told::On {
-                numbers: Numbers {
-                    state: state,
-                    edges: edges,
-                    words: words,
-                    shots: n.shots,
-                    failures: n.failures,
-                },
+            let numbers = Numbers {
+                state,
+                edges,
+                words,
+                ..n
+            };
+            ControlFlow::Continue(On {
+                numbers,
                 written: 0,
-            }
+            })
         }
     }
 }
@@ -125,23 +125,22 @@ fn answer_model(
 // ---- 06
 
 // One shot more.
-fn counted(n: Numbers, state: State, failed: bool, written: usize) -> Told
+fn counted(n: Numbers, state: State, reply: Reply) -> Told
     requires { (n.shots < 4294967295) × (n.failures ≤ n.shots) }
-    ensures { result ≡ told.On (record { state = state; edges = n.edges; words = n.words; shots = n.shots + 1; failures = n.failures + one failed }) written }
+    ensures { result ≡ Continue (record { numbers = record { state = state; edges = n.edges; words = n.words; shots = n.shots + 1; failures = n.failures + one reply.failed }; written = reply.written }) }
 {
     let shots = n.shots + 1;
-    let more = if failed { 1 } else { 0 };
-    let failures = n.failures + more;
-    Told::On {
-        numbers: Numbers {
-            state: state,
-            edges: n.edges,
-            words: n.words,
-            shots: shots,
-            failures: failures,
-        },
-        written: written,
-    }
+    let failures = n.failures + u32::from(reply.failed);
+    let numbers = Numbers {
+        state,
+        shots,
+        failures,
+        ..n
+    };
+    ControlFlow::Continue(On {
+        numbers,
+        written: reply.written,
+    })
 }
 
 // The lines of a shot. Long for its parameters, one a line.
@@ -166,7 +165,7 @@ fn answer_shot(
     let words = n.words;
     let row_words = bits::words(state.detectors);
     let truth_words = bits::words(state.observables);
-    let reply = shot_reply::shot_reply(
+    let decoded = shot_reply::shot_reply(
         state.detectors,
         state.observables,
         edges,
@@ -178,9 +177,9 @@ fn answer_shot(
         &truth[0..truth_words],
         out,
     );
-    match reply {
-        Reply::Refused(r) => refuse(r, out),
-        Reply::Decoded { written, failed } => counted(n, state, failed, written),
+    match decoded {
+        Err(r) => refuse(r, out),
+        Ok(reply) => counted(n, state, reply),
     }
 }
 
@@ -197,6 +196,7 @@ fn kind_of(line: &[u8]) -> u8
 }
 
 // A line that was read, by its kind. Long for its parameters, one a line.
+// kept: a kind is the byte that the line begins with, which the contract speaks of for any byte; an enum would be made from 4 and 6 and told back as them.
 fn answer_kind(
     kind: u8,
     n: Numbers,
@@ -242,16 +242,11 @@ fn answer_kind(
             out,
         );
     }
-    Told::On {
-        numbers: Numbers {
-            state: state,
-            edges: n.edges,
-            words: n.words,
-            shots: n.shots,
-            failures: n.failures,
-        },
+    let numbers = Numbers { state, ..n };
+    ControlFlow::Continue(On {
+        numbers,
         written: 0,
-    }
+    })
 }
 
 // A line of any bytes. Long for its parameters, one a line.
@@ -272,11 +267,10 @@ pub fn answer_line(
     ensures { Answers line.now n (columns_of probability_bits.old counts.old entries.old shot.old) (slices edge_u.old edge_v.old edge_weight.old edge_obs.old []) result (columns_of probability_bits.new counts.new entries.new shot.new) (slices edge_u.new edge_v.new edge_weight.new edge_obs.new []) out.old out.new }
 {
     let kind = kind_of(line);
-    let state = n.state;
-    let read = reader::read_line(line, state, probability_bits, counts, entries, shot);
+    let read = reader::read_line(line, n.state, probability_bits, counts, entries, shot);
     match read {
-        Line::Refused(r) => refuse(r, out),
-        Line::Next(next) => answer_kind(
+        Err(r) => refuse(r, out),
+        Ok(next) => answer_kind(
             kind,
             n,
             next,
@@ -298,7 +292,6 @@ pub fn write_end(n: Numbers, out: &mut [u8]) -> usize
     requires { (n.failures ≤ n.shots) × (35 ≤ length out.old) }
     ensures { (result ≡ length (last_text (at_end n.state.stage) n.state.observables n.failures n.shots)) × (out.new ≡ written (last_text (at_end n.state.stage) n.state.observables n.failures n.shots) out.old) }
 {
-    let state = n.state;
-    let end = frames::at_end(state);
-    replies::write_last(end, state.observables, n.failures, n.shots, out)
+    let end = frames::at_end(n.state);
+    replies::write_last(end, n.state.observables, n.failures, n.shots, out)
 }

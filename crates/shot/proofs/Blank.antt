@@ -6,13 +6,20 @@ use mathlib.Core.Bool.{true, false, not}
 use lib.Dec.{eqb}
 use lib.ListN.{length, replicate}
 use borrow.Author.Tests.{eqb-true, not-false, not-true}
+use Rattle.std.specs.List.{list_all}
 use Rattle.lists.specs.Lists.{any, below}
-use Rattle.lists.proofs.Truth.{or_left, or_right}
+use Rattle.lists.proofs.Truth.{case-of, or_left, or_right}
 use Rattle.lists.proofs.Ranges.{filter_false}
 use Rattle.bits.specs.Rows.{bit, set_bits}
 use Rattle.bits.proofs.Rows.{bit_zeros}
 use Rattle.lists.proofs.Filters.{filter_in}
 use Rattle.shot.specs.Blank.{is_blank}
+
+-- every word is 0
+pub all_blank : (row : List ℕ) → list_all (λ w. eqb w 0) row ≡ is_blank row
+unfolding any
+all_blank [] = refl
+all_blank (w ∷ row) = case-of (eqb w 0) (λ t. rw t (all_blank row)) (λ f. rw f)
 
 zeros_of : (row : List ℕ) → any (λ w. not (eqb w 0)) row ≡ false → row ≡ replicate (length row) 0
 unfolding any

@@ -1,12 +1,12 @@
--- Room for a shot's lit detectors, and a shot that has none. Assumes nothing.
-use Prim.Native.Nat.{ℕ, suc, ◌≤◌}
+-- A shot that has no lit detector. Assumes nothing.
+use Prim.Native.Nat.{ℕ, suc}
 use native.Mathlib.Omega.{arith}
-use mathlib.Core.Path.{◌≡◌, refl, sym, ap, ◌∙◌}
+use mathlib.Core.Path.{◌≡◌, refl, ap, ◌∙◌}
 use mathlib.Core.List.{List, [], ◌∷◌, map}
 use mathlib.Core.Bool.{Bool, false}
 use lib.ListN.{length, get_or}
 use Rattle.lists.specs.Lists.{below, filter, firsts}
-use Rattle.bits.specs.Rows.{words, xor_row, set_bits, bit}
+use Rattle.bits.specs.Rows.{words, set_bits, bit}
 use Rattle.bits.proofs.Rows.{xor_row_zero}
 use Rattle.bits.proofs.Booleans.{bits_at}
 use Rattle.lists.proofs.Members.{member_below}
@@ -16,13 +16,7 @@ use Rattle.steps.specs.Rows.{row_of, zeros}
 use Rattle.steps.specs.Growth.{start, turn_of, turn, grow, growth}
 use Rattle.steps.specs.Peeling.{peeled, peel_all, clusters}
 use Rattle.steps.specs.Call.{lit_of}
-use Rattle.steps.specs.Shot.{Decoded, corrected, answer, decode, row_after, row_left}
-use Rattle.shot.specs.Begin.{Room}
-
-pub room : {d : ℕ} (seen active : List ℕ) → d ≤ length seen → d ≤ length active → Room d seen active
-room seen active p q = record { seens = p; actives = q }
-
--- ---- a shot with no lit detector
+use Rattle.steps.specs.Shot.{corrected, answer, decode, row_after, row_left}
 
 pub blank_row : (g : Graph) (row : List ℕ) → row_left g row (corrected 0 []) ≡ row
 unfolding row_left row_after row_of zeros

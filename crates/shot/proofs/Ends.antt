@@ -3,9 +3,8 @@ use Prim.Native.Nat.{ℕ, ◌<◌}
 use mathlib.Core.Path.{◌≡◌, sym, ap, ◌∙◌}
 use mathlib.Core.List.{List}
 use mathlib.Core.Bool.{Bool, false}
-use lib.ListN.{length, get_or, take, length-replicate, get_or-replicate}
+use lib.ListN.{length, get_or, length-replicate, get_or-replicate}
 use lib.Ieee.{Float}
-use Rattle.lists.specs.Lists.{member}
 use Rattle.forest.specs.Forest.{Down, labels}
 use Rattle.forest.proofs.Forest.{labels_named, label_root}
 use Rattle.peeling.specs.Tables.{Same}

@@ -1,44 +1,42 @@
 -- A shot's parts fit: what growth leaves is what peeling asks, and what peeling leaves is what cleaning asks.
-use Prim.Native.Nat.{ℕ, ◌*◌, ◌≤◌, ◌<◌}
+use Prim.Native.Nat.{ℕ, ◌≤◌, ◌<◌}
 use native.Mathlib.Omega.{arith}
-use mathlib.Core.Path.{◌≡◌, refl, sym, ap, ◌∙◌, subst}
+use mathlib.Core.Path.{◌≡◌, refl, sym, ap, ◌∙◌}
 use mathlib.Core.List.{List, [], ◌∷◌, ◌++◌, map}
-use mathlib.Core.Bool.{Bool, true, false, cond}
-use lib.Dec.{eqb}
-use lib.ListN.{length, get_or, take, drop, length-replicate, get_or-replicate}
+use mathlib.Core.Bool.{Bool, true, false}
+use lib.ListN.{length, get_or, take, drop}
 use lib.Seq.{take_all, take_at, length-take-le}
 use lib.Ieee.{Float}
 use borrow.Author.Tests.{eq-eqb, ne_eqb}
 use Rattle.lists.specs.Lists.{below, filter, member}
-use Rattle.lists.proofs.Truth.{case-of, clash, and_left, and_right, not_so}
-use Rattle.lists.proofs.Members.{member_filter, member_firsts, member_unmap, member_below, get_d_any, length_below}
+use Rattle.lists.proofs.Truth.{case-of, and_left, and_right}
+use Rattle.lists.proofs.Members.{member_filter, member_firsts, member_unmap, member_below, get_d_any}
 use Rattle.lists.proofs.Filters.{filter_in}
 use Rattle.bits.specs.Rows.{words, bit, set_bits}
 use Rattle.bits.proofs.Booleans.{bits_at}
 use Rattle.bits.proofs.Listed.{set_bits_few}
-use Rattle.steps.specs.Graph.{Graph, Ends, boundary, edges, inner, outer, is_pair}
+use Rattle.steps.specs.Graph.{Graph, Ends, boundary, edges}
 use Rattle.steps.specs.Growth.{State, settled, stuck, growth, exits}
 use Rattle.steps.specs.Laws.{Constant}
-use Rattle.steps.specs.Peeling.{clusters, exits_of, peeled}
-use Rattle.steps.specs.Shot.{impossible, corrected, answer, decode, row_left}
+use Rattle.steps.specs.Peeling.{clusters, exits_of}
+use Rattle.steps.specs.Shot.{impossible, answer, decode, row_left}
 use Rattle.steps.specs.Call.{graph_of, lit_of, list_left}
 use Rattle.found.proofs.Labels.{name, Labels}
-use Rattle.found.proofs.Rounds.{Kept}
 use Rattle.found.proofs.SameEnds.{SameEnds, SameWeights, same_ends_lem, back, same_growth}
 use Rattle.forest.specs.Forest.{Down, labels}
 use Rattle.forest.proofs.Forest.{length_labels}
-use Rattle.adjacency.specs.Adjacent.{plain, weighted, Adjacent}
+use Rattle.adjacency.specs.Adjacent.{plain, weighted}
 use Rattle.walks.specs.Walks.{Tabled}
 use Rattle.peeling.specs.Tables.{first_of, Grown, Lit}
 use Rattle.peeling.proofs.Settled.{settled_quiet, settled_grown}
 use Rattle.finish.proofs.ObservableRows.{lent_flat}
 use Rattle.finish.specs.Finish.{Settles, Finished}
 use Rattle.finish.proofs.Answers.{decode_answered, list_answered, row_answered}
-use Rattle.growth_state.specs.Rep.{state_of, lowest, Clusters, Seen, Rep, Used}
-use Rattle.rest.specs.Clean.{Clean, Cleaning}
+use Rattle.growth_state.specs.Rep.{state_of, lowest, Seen, Rep}
+use Rattle.rest.specs.Clean.{Cleaning}
 use Rattle.growth_round.specs.Round.{Space}
 use Rattle.growth_round.specs.Grow.{answer_of, Grew}
-use Rattle.shot.specs.Begin.{Room, Shot}
+use Rattle.shot.specs.Begin.{Shot}
 use Rattle.shot.specs.Shots.{graph_in, shot_of, Tables, Given, Left}
 use Rattle.shot.specs.declared.Shot.TheVariants as shot
 
@@ -117,7 +115,7 @@ module _ {d o : ℕ} {u v : List ℕ} {weight : List Float} {obs off adj far : L
   ends_same : SameEnds (plain d u v) g
   ends_same = record { detectors = same_weights.ends.detectors; edge_u = same_weights.ends.edge_u; edge_v = same_weights.ends.edge_v }
 
-  ends_weighted : Ends (weighted d u v weight)
+  pub ends_weighted : Ends (weighted d u v weight)
   ends_weighted = same_ends_lem (back same_weights.ends) t.ends
 
   ends_plain : Ends (plain d u v)

@@ -5,6 +5,7 @@ pub mod Blank
 pub mod DecodeRows
 pub mod Decodes
 pub mod Ends
+pub mod Growing
 pub mod Joins
 pub mod Lights
 pub mod Longer

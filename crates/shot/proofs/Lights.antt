@@ -1,32 +1,29 @@
 -- Clean tables and the first state. Assumes nothing.
-use Prim.Native.Nat.{ℕ, zero, suc, ◌+◌, ◌*◌, ◌<◌, ◌≤◌}
+use Prim.Native.Nat.{ℕ, zero, suc, ◌+◌, ◌<◌, ◌≤◌}
 use native.Mathlib.Omega.{arith}
-use mathlib.Core.Path.{◌≡◌, refl, sym, ap, ap₂, ◌∙◌}
-use mathlib.Core.List.{List, [], ◌∷◌, ◌++◌, map}
-use mathlib.Core.Bool.{Bool, true, false, cond, not, ◌&&◌, ◌||◌, and-true, and_comm}
-use mathlib.Core.Logic.{⊎_elim}
+use mathlib.Core.Path.{◌≡◌, refl, sym, ap, ◌∙◌}
+use mathlib.Core.List.{List, ◌∷◌, map}
+use mathlib.Core.Bool.{Bool, true, false, ◌&&◌, ◌||◌, and-true, and_comm}
 use lib.Dec.{eqb, ltb}
-use lib.IntN.{pos}
-use lib.ListN.{length, get_or, set, take, replicate, length-map, length-replicate, get_or-replicate, get_or-eq_default}
+use lib.ListN.{length, get_or, take, replicate, length-map, length-replicate, get_or-replicate, get_or-eq_default}
 use lib.Seq.{ext_get_or, get_or-take, length-take-le}
 use lib.Ieee.{Float, nan}
-use borrow.Author.Tests.{ltb-true, ltb-false, eqb-true}
-use Rattle.lists.specs.Lists.{from, below, filter, any, odd, member, falses}
-use Rattle.steps.specs.Graph.{Graph, Ends, inner, edges, is_pair}
-use Rattle.steps.specs.Growth.{State, is_odd, exits, start, after}
-use Rattle.lists.proofs.Truth.{case-of, clash, and_left, and_right, eqb_comm}
+use borrow.Author.Tests.{ltb-true, ltb-false}
+use Rattle.lists.specs.Lists.{from, below, filter, member, falses}
+use Rattle.steps.specs.Graph.{Graph, Ends, edges}
+use Rattle.steps.specs.Growth.{is_odd, exits, start, after}
+use Rattle.lists.proofs.Truth.{case-of, clash, and_right, eqb_comm}
 use Rattle.lists.proofs.Members.{member_filter, member_below, below_member, length_below, get_d_below, below_at, at_member}
 use Rattle.lists.proofs.Sums.{odd_cong, odd_hit}
 use Rattle.found.proofs.Rounds.{Kept}
 use Rattle.found.proofs.Kept.{kept}
 use Rattle.forest.specs.Forest.{Down, labels}
-use Rattle.forest.proofs.Forest.{Named, labels_only}
+use Rattle.forest.proofs.Forest.{labels_only}
 use Rattle.bits.specs.Rows.{bit, bits_of, set_bits}
 use Rattle.steps.specs.Call.{lit_of}
 use Rattle.adjacency.specs.Adjacent.{weighted}
 use Rattle.lists.proofs.Filters.{length_filter, filter_in}
-use Rattle.growth_state.specs.Rep.{zero64, state_of, lowest, Clusters, Seen, Calm, Rest, Rep}
-use Rattle.growth_state.proofs.Laws.{set_bool, member_snoc, take_next, put_next}
+use Rattle.growth_state.specs.Rep.{zero64, state_of, lowest, Rep}
 use Rattle.growth_state.proofs.Join.{lowest_cong, lowest_none}
 use Rattle.rest.specs.Clean.{Clean}
 use Rattle.lit.specs.Lit.{Lighting, LitBy}

@@ -9,8 +9,11 @@ use lib.Seq.{length-take-le, take-take}
 use Rattle.steps.specs.Call.{graph_of}
 use Rattle.growth_laws.specs.Laws.{Fit}
 use Rattle.columns.proofs.Columns.{column_length}
-use Rattle.cells.specs.Tables.{Words, defects, seen, active, front, order_edge, order_parent, touched, cnt, fresh}
+use Rattle.cells.specs.declared.Stack.{Stack}
+use Rattle.cells.specs.declared.Link.{Link}
+use Rattle.cells.specs.Tables.{link_column, stack_column, defects, seen, active, front, order_edge, order_parent, touched, cnt, fresh}
 use Rattle.adjacency.specs.Adjacent.{weighted}
+use Rattle.adjacency.specs.declared.Neighbor.{Neighbor}
 use Rattle.adjacency.specs.Pairs.{near, away}
 use Rattle.adjacency.proofs.Parts.{part, part_length}
 use Rattle.shot.specs.Shots.{Tables, Places, graph_in}
@@ -26,7 +29,22 @@ graph_take d o n u v weight obs h =
 pub graph_part : (d o n : ℕ) (u v : List ℕ) (weight : List Float) (obs : List ℕ) → n ≤ length u → graph_in d o (part n u) (part n v) (part n weight) obs ≡ graph_of d o n u v weight obs
 graph_part d o n u v weight obs h = let z : n - 0 ≡ n = omega arith in rw z (graph_take d o n u v weight obs h)
 
-module _ {d o n : ℕ} {u v : List ℕ} {weight : List Float} {obs off : List ℕ} {adj : List (List ℕ)} (t : Longer d o n u v weight obs off adj) where
+-- rows of the stacks and the links are places
+pub places_in : {d n : ℕ} (stacks : List Stack) (links : List Link) → d ≤ length stacks → n < length links
+    → Places d n (defects stacks) (seen stacks) (active stacks) (front stacks) (touched links) (cnt links) (fresh links) (order_edge stacks) (order_parent stacks)
+places_in stacks links p q = record {
+  lit_ones = omega (arith, column_length stack_column 0 stacks);
+  seens = omega (arith, column_length stack_column 1 stacks);
+  actives = omega (arith, column_length stack_column 2 stacks);
+  fronts = omega (arith, column_length stack_column 3 stacks);
+  touches = omega (arith, column_length link_column 0 links);
+  counts = omega (arith, column_length link_column 1 links);
+  freshes = omega (arith, column_length link_column 2 links);
+  trees = omega (arith, column_length stack_column 4 stacks);
+  parents = omega (arith, column_length stack_column 5 stacks);
+}
+
+module _ {d o n : ℕ} {u v : List ℕ} {weight : List Float} {obs off : List ℕ} {adj : List Neighbor} (t : Longer d o n u v weight obs off adj) where
   counted : length (take n u) ≡ n
   counted = length-take-le n u t.firsts
 
@@ -55,17 +73,6 @@ module _ {d o n : ℕ} {u v : List ℕ} {weight : List Float} {obs off : List �
         adjacent = t.adjacent;
       })
 
-  -- rows of the stacks and the links for them
-  pub places : (stacks links : Words) → d ≤ length stacks → n < length links
+  pub places : (stacks : List Stack) (links : List Link) → d ≤ length stacks → n < length links
       → Places d (length (part n u)) (defects stacks) (seen stacks) (active stacks) (front stacks) (touched links) (cnt links) (fresh links) (order_edge stacks) (order_parent stacks)
-  places stacks links p q = rw few_part (record {
-    lit_ones = omega (arith, column_length 0 0 stacks);
-    seens = omega (arith, column_length 0 1 stacks);
-    actives = omega (arith, column_length 0 2 stacks);
-    fronts = omega (arith, column_length 0 3 stacks);
-    touches = omega (arith, column_length 0 0 links);
-    counts = omega (arith, column_length 0 1 links);
-    freshes = omega (arith, column_length 0 2 links);
-    trees = omega (arith, column_length 0 4 stacks);
-    parents = omega (arith, column_length 0 5 stacks);
-  })
+  places stacks links p q = rw few_part (places_in stacks links p q)

@@ -1,5 +1,5 @@
 -- What the rounds keep of what growth leaves to the shot's end.
-use Prim.Native.Nat.{ℕ, ◌≤◌}
+use Prim.Native.Nat.{ℕ}
 use native.Mathlib.Omega.{arith}
 use mathlib.Core.Path.{◌≡◌, sym, ap, ◌∙◌}
 use mathlib.Core.List.{List}
@@ -26,16 +26,14 @@ left_on {d} k e p q = record {
   parents = k.parents;
 }
 
--- what a shot leaves: its answer, its list, its row, and what C says of the tables
-abbrev pub Leaves : Graph → List Bool → Shot → List ℕ → List ℕ → List ℕ → List ℕ → Type 0 → Type 0
-Leaves g lit r list list' row row' C = (r ≡ shot_of (decode g lit)) × ((list' ≡ list_left list (decode g lit)) × ((row' ≡ row_left g row (decode g lit)) × C))
+-- what a shot leaves: its answer, its list and its row
+abbrev pub Leaves : Graph → List Bool → Shot → List ℕ → List ℕ → List ℕ → List ℕ → Type 0
+Leaves g lit r list list' row row' = (r ≡ shot_of (decode g lit)) × (list' ≡ list_left list (decode g lit)) × (row' ≡ row_left g row (decode g lit))
 
 -- an answer to the detectors lit in a table is one to those lit in the row
-pub relit : (g : Graph) (list row : List ℕ) {r : Shot} {lit was : List Bool} {list' row' : List ℕ} {C : Type 0} → lit ≡ was → Leaves g lit r list list' row row' C → Leaves g was r list list' row row' C
+pub relit : (g : Graph) (list row : List ℕ) {r : Shot} {lit was : List Bool} {list' row' : List ℕ} → lit ≡ was → Leaves g lit r list list' row row' → Leaves g was r list list' row row'
 relit g list row q k = (
   k.0 ∙ ap (λ (x : List Bool). shot_of (decode g x)) q,
-  (
-    k.1.0 ∙ ap (λ (x : List Bool). list_left list (decode g x)) q,
-    (k.1.1.0 ∙ ap (λ (x : List Bool). row_left g row (decode g x)) q, k.1.1.1),
-  ),
+  k.1 ∙ ap (λ (x : List Bool). list_left list (decode g x)) q,
+  k.2 ∙ ap (λ (x : List Bool). row_left g row (decode g x)) q,
 )

@@ -4,10 +4,11 @@ use Rattle.bits.specs.Rows.{words}
 use Rattle.steps.specs.Graph.{Ends}
 use Rattle.steps.specs.Call.{graph_of}
 use Rattle.growth_laws.specs.Laws.{Fit}
+use Rattle.adjacency.specs.declared.Neighbor.{Neighbor}
 use Rattle.adjacency.specs.Pairs.{AdjacentParts}
 
 -- n edges whose ends are in order and whose weights fit
-pub record Longer (d o n : ℕ) (u v : List ℕ) (weight : List Float) (obs off : List ℕ) (adj : List (List ℕ)) : Type 0 where
+pub record Longer (d o n : ℕ) (u v : List ℕ) (weight : List Float) (obs off : List ℕ) (adj : List Neighbor) : Type 0 where
   pub ends : Ends (graph_of d o n u v weight obs)
   pub fits : Fit (graph_of d o n u v weight obs)
   pub firsts : n ≤ length u

@@ -1,10 +1,9 @@
 // One shot decoded over tables at rest: docs/RULES.md, "Growth" and "Peeling".
 #![tactic(auto)]
 
-ghost use Rattle.std.specs.Prelude.{◌+◌, ◌<◌, ℕ, ◌≤◌, true, take, length, [], ◌∷◌, List, ◌≡◌};
+ghost use Rattle.std.specs.Prelude.{◌+◌, ◌<◌, ℕ, ◌≤◌, take, length, [], ◌∷◌, List, ◌≡◌};
 ghost use Rattle.shot.specs.Begin.{GrewTo};
-ghost use Rattle.columns.specs.Columns.{Wide};
-ghost use Rattle.cells.specs.Tables.{lits, knowns, odds, hots, defects, seen, active, SameFlags, SameStacks, parents, exits, frees, front, order_edge, order_parent, touched, cnt, fresh};
+ghost use Rattle.cells.specs.Tables.{at_active, at_front, at_order_edge, at_order_parent, lits, knowns, odds, hots, defects, seen, active, SameStacks, parents, exits, frees, front, order_edge, order_parent, touched, cnt, fresh};
 ghost use Rattle.forest.specs.Forest.{Down, labels};
 ghost use Rattle.walks.specs.Walks.{Tabled};
 ghost use Rattle.peeling.specs.Tables.{Grown, Lit};
@@ -20,7 +19,8 @@ ghost use Rattle.shot.specs.Shots.{Tables, graph_in, shot_of, Left, Places, Give
 ghost use Rattle.steps.specs.Growth.{start};
 ghost use Rattle.shot.specs.Blank.{is_blank};
 
-use cells::{ACTIVE, DEFECTS};
+use adjacency::Neighbor;
+use cells::{Flags, Link, Node, Stack};
 
 // Peels all clusters, puts the observables of the list into out_row, and puts to rest what the shot has changed. Returns the length of the list.
 pub fn end_shot(
@@ -28,10 +28,10 @@ pub fn end_shot(
     edge_u: &[u32],
     edge_v: &[u32],
     adj_offsets: &[u32],
-    adj: &[[u32; 2]],
-    tree: &mut [[u32; 2]],
-    flags: &mut [[bool; 8]],
-    stacks: &mut [[u32; 6]],
+    adj: &[Neighbor],
+    tree: &mut [Node],
+    flags: &mut [Flags],
+    stacks: &mut [Stack],
     growth: &mut [f64],
     sat: &mut [bool],
     defect_count: usize,
@@ -48,10 +48,9 @@ pub fn end_shot(
     requires settles { Settles d edge_u.now edge_v.now sat.old (labels d (parents tree.old)) (lits flags.old) obs_words edge_obs.now out_row.old (seen stacks.old) seen_count }
     requires cleaning { Cleaning d edge_u.now edge_v.now adj_offsets.now (near adj.now) (away adj.now) (seen stacks.old) seen_count }
     requires used { Used d edge_u.now edge_v.now (take seen_count (seen stacks.old)) (lits flags.old) growth.old sat.old (knowns flags.old) (parents tree.old) (odds flags.old) (exits tree.old) (hots flags.old) (frees flags.old) }
-    requires wide { Wide 2 tree.old × Wide 8 flags.old × Wide 6 stacks.old }
     ensures finished { Finished d edge_u.now edge_v.now sat.old (labels d (parents tree.old)) (lits flags.old) obs_words edge_obs.now out_row.old list.old result (frees flags.new) (lits flags.new) out_row.new list.new }
     ensures clean { Clean d (length edge_u.now) (lits flags.new) growth.new sat.new (knowns flags.new) (parents tree.new) (odds flags.new) (exits tree.new) (hots flags.new) (frees flags.new) }
-    ensures wide_2 { Wide 2 tree.new × Wide 8 flags.new × SameStacks (2 ∷ 3 ∷ 4 ∷ 5 ∷ []) stacks.old stacks.new }
+    ensures same_stacks { SameStacks (at_active ∷ at_front ∷ at_order_edge ∷ at_order_parent ∷ []) stacks.old stacks.new }
 {
     let r = finish::finish(
         d,
@@ -102,10 +101,10 @@ pub fn stuck_shot(
     edge_weight: &[f64],
     edge_obs: &[u64],
     adj_offsets: &[u32],
-    adj: &[[u32; 2]],
-    tree: &mut [[u32; 2]],
-    flags: &mut [[bool; 8]],
-    stacks: &[[u32; 6]],
+    adj: &[Neighbor],
+    tree: &mut [Node],
+    flags: &mut [Flags],
+    stacks: &[Stack],
     growth: &mut [f64],
     sat: &mut [bool],
     n: usize,
@@ -115,12 +114,10 @@ pub fn stuck_shot(
     requires tables { Tables detectors observables edge_u.now edge_v.now edge_weight.now edge_obs.now adj_offsets.now (near adj.now) (away adj.now) }
     requires grew_to { GrewTo (weighted detectors edge_u.now edge_v.now edge_weight.now) (lits flags.old) detector rounds growth.old sat.old (parents tree.old) (odds flags.old) (exits tree.old) (knowns flags.old) (seen stacks.now) n (hots flags.old) (frees flags.old) }
     requires fact { detector ≡ boundary → ⊥ }
-    requires wide { Wide 2 tree.old × Wide 8 flags.old }
     ensures answers { result ≡ shot_of (decode (graph_in detectors observables edge_u.now edge_v.now edge_weight.now edge_obs.now) (lits flags.old)) }
     ensures lists { (was : List ℕ) → was ≡ list_left was (decode (graph_in detectors observables edge_u.now edge_v.now edge_weight.now edge_obs.now) (lits flags.old)) }
     ensures rows { (was : List ℕ) → was ≡ row_left (graph_in detectors observables edge_u.now edge_v.now edge_weight.now edge_obs.now) was (decode (graph_in detectors observables edge_u.now edge_v.now edge_weight.now edge_obs.now) (lits flags.old)) }
     ensures rests { Clean detectors (length edge_u.now) (lits flags.new) growth.new sat.new (knowns flags.new) (parents tree.new) (odds flags.new) (exits tree.new) (hots flags.new) (frees flags.new) }
-    ensures wides { Wide 2 tree.new × Wide 8 flags.new }
 {
     rest::clean(
         detectors,
@@ -138,8 +135,6 @@ pub fn stuck_shot(
     Shot::Stuck { rounds, detector }
 }
 
-const BOUNDARY: u32 = 4294967295;
-
 // Rounds until no cluster is active or one is stuck, from the l lit detectors, and the answer. The tables are put to rest. Long for its parameters, one a line; it is one loop between a round and the two ends.
 pub fn grow_and_answer(
     detectors: usize,
@@ -149,14 +144,14 @@ pub fn grow_and_answer(
     edge_weight: &[f64],
     edge_obs: &[u64],
     adj_offsets: &[u32],
-    adj: &[[u32; 2]],
+    adj: &[Neighbor],
     row: &mut [u64],
     list: &mut [u32],
     l: usize,
-    tree: &mut [[u32; 2]],
-    flags: &mut [[bool; 8]],
-    stacks: &mut [[u32; 6]],
-    links: &mut [[u32; 4]],
+    tree: &mut [Node],
+    flags: &mut [Flags],
+    stacks: &mut [Stack],
+    links: &mut [Link],
     growth: &mut [f64],
     sat: &mut [bool],
 ) -> Shot
@@ -164,16 +159,15 @@ pub fn grow_and_answer(
     requires left { Left detectors observables (lits flags.old) row.old list.old (defects stacks.old) l (active stacks.old) (front stacks.old) (order_edge stacks.old) (order_parent stacks.old) }
     requires edge_u_in_bounds { (length edge_u.now < length (touched links.old)) × (length edge_u.now < length (cnt links.old)) × (length edge_u.now ≤ length (fresh links.old)) }
     requires rep { Rep (weighted detectors edge_u.now edge_v.now edge_weight.now) (lits flags.old) (start (weighted detectors edge_u.now edge_v.now edge_weight.now) (lits flags.old)) growth.old sat.old (parents tree.old) (active stacks.old) l (odds flags.old) (exits tree.old) (knowns flags.old) (seen stacks.old) l (hots flags.old) (frees flags.old) }
-    requires wide { Wide 2 tree.old × Wide 8 flags.old × Wide 6 stacks.old × Wide 4 links.old }
     ensures answers { result ≡ shot_of (decode (graph_in detectors observables edge_u.now edge_v.now edge_weight.now edge_obs.now) (lits flags.old)) }
     ensures lists { list.new ≡ list_left list.old (decode (graph_in detectors observables edge_u.now edge_v.now edge_weight.now edge_obs.now) (lits flags.old)) }
     ensures rows { row.new ≡ row_left (graph_in detectors observables edge_u.now edge_v.now edge_weight.now edge_obs.now) row.old (decode (graph_in detectors observables edge_u.now edge_v.now edge_weight.now edge_obs.now) (lits flags.old)) }
     ensures rests { Clean detectors (length edge_u.now) (lits flags.new) growth.new sat.new (knowns flags.new) (parents tree.new) (odds flags.new) (exits tree.new) (hots flags.new) (frees flags.new) }
-    ensures wides { Wide 2 tree.new × Wide 8 flags.new × Wide 6 stacks.new × Wide 4 links.new }
 {
     let mut n = l;
     let mut a = l;
     let mut rounds = 0;
+    // kept: it ends when growth does, which no count tells
     while 0 < a {
         let s = growth_round::round(
             detectors,
@@ -193,8 +187,7 @@ pub fn grow_and_answer(
         );
         n = s.seen;
         a = s.active;
-        let detector = s.stuck;
-        if detector != BOUNDARY {
+        if let Some(detector) = s.stuck {
             return stuck_shot(
                 detectors,
                 observables,
@@ -242,18 +235,10 @@ pub fn grow_and_answer(
 pub fn is_blank(row: &[u64]) -> bool
     ensures { result ≡ is_blank row.now }
 {
-    let mut i = 0;
-    while i < row.len() {
-        let word = row[i];
-        i += 1;
-        if word != 0 {
-            return false;
-        }
-    }
-    true
+    row.iter().all(|w| *w == 0)
 }
 
-// Decodes the shot over tables at rest and leaves them at rest. Peeling has its marks in the column FREE, its stack in FRONT and its vertices in ACTIVE.
+// Decodes the shot over tables at rest and leaves them at rest. Peeling has its marks in the column `free`, its stack in `front` and its vertices in `active`.
 pub fn decode_clean(
     detectors: usize,
     observables: usize,
@@ -262,14 +247,14 @@ pub fn decode_clean(
     edge_weight: &[f64],
     edge_obs: &[u64],
     adj_offsets: &[u32],
-    adj: &[[u32; 2]],
+    adj: &[Neighbor],
     shot: &[u64],
     row: &mut [u64],
     list: &mut [u32],
-    tree: &mut [[u32; 2]],
-    flags: &mut [[bool; 8]],
-    stacks: &mut [[u32; 6]],
-    links: &mut [[u32; 4]],
+    tree: &mut [Node],
+    flags: &mut [Flags],
+    stacks: &mut [Stack],
+    links: &mut [Link],
     growth: &mut [f64],
     sat: &mut [bool],
 ) -> Shot
@@ -277,14 +262,12 @@ pub fn decode_clean(
     requires given { Given detectors observables shot.now row.old list.old }
     requires places { Places detectors (length edge_u.now) (defects stacks.old) (seen stacks.old) (active stacks.old) (front stacks.old) (touched links.old) (cnt links.old) (fresh links.old) (order_edge stacks.old) (order_parent stacks.old) }
     requires clean { Clean detectors (length edge_u.now) (lits flags.old) growth.old sat.old (knowns flags.old) (parents tree.old) (odds flags.old) (exits tree.old) (hots flags.old) (frees flags.old) }
-    requires wide { Wide 2 tree.old × Wide 8 flags.old × Wide 6 stacks.old × Wide 4 links.old }
     ensures answers { result ≡ shot_of (decode_in detectors observables edge_u.now edge_v.now edge_weight.now edge_obs.now shot.now) }
     ensures lists { list.new ≡ list_left list.old (decode_in detectors observables edge_u.now edge_v.now edge_weight.now edge_obs.now shot.now) }
     ensures rows { row.new ≡ row_left (graph_in detectors observables edge_u.now edge_v.now edge_weight.now edge_obs.now) row.old (decode_in detectors observables edge_u.now edge_v.now edge_weight.now edge_obs.now shot.now) }
     ensures rests { Clean detectors (length edge_u.now) (lits flags.new) growth.new sat.new (knowns flags.new) (parents tree.new) (odds flags.new) (exits tree.new) (hots flags.new) (frees flags.new) }
-    ensures wides { Wide 2 tree.new × Wide 8 flags.new × Wide 6 stacks.new × Wide 4 links.new }
 {
-    let l = bits::list_set_bits(shot, detectors, stacks, DEFECTS);
+    let l = bits::list_set_bits(shot, detectors, stacks);
     if l == 0 {
         return Shot::Decoded {
             rounds: 0,

@@ -1,10 +1,10 @@
 -- The answer of the decoder as the outcome of a shot.
+use Rattle.std.specs.Prelude.{Result, Ok, Err}
 use Prim.Native.Nat.{ℕ, ◌+◌, ◌-◌, ◌*◌, ◌≤◌}
 use native.Mathlib.Omega.{arith}
 use native.Mathlib.Nat.{one-mul}
 use mathlib.Core.Path.{◌≡◌, refl, sym, ap, ◌∙◌, subst}
-use mathlib.Core.List.{List, [], ◌∷◌, ◌++◌}
-use mathlib.Core.Bool.{Bool}
+use mathlib.Core.List.{List, ◌++◌}
 use lib.ListN.{length, take, drop, replicate, length-append, length-take}
 use lib.Seq.{take-append_seam}
 use lib.Ieee.{Float}
@@ -12,11 +12,8 @@ use borrow.Rule.Slice.PartMut.{mid_of}
 use Rattle.bits.specs.Rows.{words}
 use Rattle.codes.specs.declared.Refusal.{Refusal}
 use Rattle.codes.specs.declared.Refusal.TheVariants.{Stuck}
-use Rattle.codes.specs.declared.Checked.{Checked}
-use Rattle.codes.specs.declared.Checked.TheVariants.{Accepted, Refused}
-use Rattle.codes.specs.Order.{and_then}
+use Rattle.codes.specs.Order.{Checked, and_then}
 use Rattle.packed.specs.Packed.{check_packed, packed_of}
-use Rattle.packed.specs.declared.Packed.TheVariants as packed
 use Rattle.packed.proofs.Laws.{accepted_sound, rows_accepted, refused_same}
 use Rattle.steps.specs.Graph.{Graph}
 use Rattle.steps.specs.Shot as steps
@@ -26,9 +23,8 @@ use Rattle.decoder.specs.declared.Answer.{Answer}
 use Rattle.decoder.specs.declared.Answer.TheVariants as answer
 use Rattle.decoder.specs.Answer.{Handed, graph_of_call, checks, decoded, answer_of, list_after, row_after, Decodes}
 use Rattle.shot_reply.specs.declared.Reply.{Reply}
-use Rattle.shot_reply.specs.declared.Reply.TheVariants as reply
-use Rattle.shot_reply.specs.Outcome.{Outcome, told, refused, shot_text, differs, by_decoded, only_then, handed_for, decoded_shot, shot_outcome}
-use Rattle.shot_reply.specs.Replied.{Replied, reply_of, text_left}
+use Rattle.shot_reply.specs.Outcome.{told, shot_text, differs, by_decoded, only_then, handed_for, decoded_shot, shot_outcome}
+use Rattle.shot_reply.specs.Replied.{Replied}
 use Rattle.shot_reply.proofs.Texts.{two_zeros, zero_row_lem}
 
 -- the length in an answer
@@ -38,24 +34,24 @@ size (answer.Stuck m d) = 0
 size (answer.Refused r) = 0
 
 module _ (g : Graph) (row truth was : List ℕ) where
-  by_refused : (x : Refusal) (c : Checked) (y : Decoded) → answer.Refused x ≡ answer_of c y → Replied (only_then c (by_decoded g row truth y)) (reply.Refused x) was was
+  by_refused : (x : Refusal) (c : Checked) (y : Decoded) → answer.Refused x ≡ answer_of c y → Replied (only_then c (by_decoded g row truth y)) (Err x) was was
   unfolding answer_of by_decoded
-  by_refused x (Refused r) y e = record { answer = cc; text = refl }
-  by_refused x Accepted (impossible n d) e = absurd (let z : ◌≡◌ {A = ℕ} 0 1 = cc in omega arith)
-  by_refused x Accepted (corrected n l) e = absurd (let z : ◌≡◌ {A = ℕ} 0 1 = cc in omega arith)
+  by_refused x (Err r) y e = record { answer = cc; text = refl }
+  by_refused x (Ok tt) (impossible n d) e = cc
+  by_refused x (Ok tt) (corrected n l) e = cc
 
-  by_stuck : (m d : ℕ) (c : Checked) (y : Decoded) → answer.Stuck m d ≡ answer_of c y → Replied (only_then c (by_decoded g row truth y)) (reply.Refused (Stuck 0 d)) was was
+  by_stuck : (m d : ℕ) (c : Checked) (y : Decoded) → answer.Stuck m d ≡ answer_of c y → Replied (only_then c (by_decoded g row truth y)) (Err (Stuck 0 d)) was was
   unfolding answer_of by_decoded
-  by_stuck m d (Refused r) y e = absurd (let z : ◌≡◌ {A = ℕ} 0 1 = cc in omega arith)
-  by_stuck m d Accepted (impossible n x) e = record { answer = cc; text = refl }
-  by_stuck m d Accepted (corrected n l) e = absurd (let z : ◌≡◌ {A = ℕ} 0 1 = cc in omega arith)
+  by_stuck m d (Err r) y e = cc
+  by_stuck m d (Ok tt) (impossible n x) e = record { answer = cc; text = refl }
+  by_stuck m d (Ok tt) (corrected n l) e = cc
 
   by_list : (m k : ℕ) (list list' row' : List ℕ) (c : Checked) (y : Decoded) → answer.Decoded m k ≡ answer_of c y → list' ≡ list_after c list y → row' ≡ row_after c g row y
-      → (r : Reply) (out : List ℕ) → Replied (told (shot_text row' (mid_of 0 (k - 0) list')) (differs row' truth)) r was out → Replied (only_then c (by_decoded g row truth y)) r was out
+      → (r : Result Reply Refusal) (out : List ℕ) → Replied (told (shot_text row' (mid_of 0 (k - 0) list')) (differs row' truth)) r was out → Replied (only_then c (by_decoded g row truth y)) r was out
   unfolding answer_of list_after row_after list_left row_left by_decoded
-  by_list m k list list' row' (Refused x) y e l q r out p = absurd (let z : ◌≡◌ {A = ℕ} 0 1 = cc in omega arith)
-  by_list m k list list' row' Accepted (impossible n x) e l q r out p = absurd (let z : ◌≡◌ {A = ℕ} 0 1 = cc in omega arith)
-  by_list m k list list' row' Accepted (corrected n edges) e l q r out p =
+  by_list m k list list' row' (Err x) y e l q r out p = cc
+  by_list m k list list' row' (Ok tt) (impossible n x) e l q r out p = cc
+  by_list m k list list' row' (Ok tt) (corrected n edges) e l q r out p =
       let long : k ≡ length edges = ap size e in
       let n : k - 0 ≡ length edges = omega (arith, long) in
       let front : mid_of 0 (k - 0) list' ≡ edges
@@ -65,9 +61,9 @@ module _ (g : Graph) (row truth was : List ℕ) where
 
   by_long : (m k : ℕ) (list list' : List ℕ) (c : Checked) (y : Decoded) → answer.Decoded m k ≡ answer_of c y → list' ≡ list_after c list y → k ≤ length list'
   unfolding answer_of list_after list_left
-  by_long m k list list' (Refused x) y e l = absurd (let z : ◌≡◌ {A = ℕ} 0 1 = cc in omega arith)
-  by_long m k list list' Accepted (impossible n x) e l = absurd (let z : ◌≡◌ {A = ℕ} 0 1 = cc in omega arith)
-  by_long m k list list' Accepted (corrected n edges) e l =
+  by_long m k list list' (Err x) y e l = cc
+  by_long m k list list' (Ok tt) (impossible n x) e l = cc
+  by_long m k list list' (Ok tt) (corrected n edges) e l =
       let long : k ≡ length edges = ap size e in
       let n : length list' ≡ length (edges ++ drop (length edges) list) = ap length l in
       omega (arith, long, n, length-append edges (drop (length edges) list))
@@ -79,12 +75,12 @@ told_room row row' truth list list' k n r l e h = (r ∙ e, omega (arith, r, l, 
 
 module _ (h : Handed) (truth was list' row' : List ℕ) where
   -- a refusal of the decoder is the shot's
-  pub told_refused : (x : Refusal) → Decodes h (answer.Refused x) list' row' → Replied (decoded_shot h truth) (reply.Refused x) was was
+  pub told_refused : (x : Refusal) → Decodes h (answer.Refused x) list' row' → Replied (decoded_shot h truth) (Err x) was was
   unfolding decoded_shot
   told_refused x d = by_refused (graph_of_call h) h.row truth was x (checks h) (decoded h) d.answers
 
   -- Stuck is 11
-  pub told_stuck : (m x : ℕ) → Decodes h (answer.Stuck m x) list' row' → Replied (decoded_shot h truth) (reply.Refused (Stuck 0 x)) was was
+  pub told_stuck : (m x : ℕ) → Decodes h (answer.Stuck m x) list' row' → Replied (decoded_shot h truth) (Err (Stuck 0 x)) was was
   unfolding decoded_shot
   told_stuck m x d = by_stuck (graph_of_call h) h.row truth was m x (checks h) (decoded h) d.answers
 
@@ -94,24 +90,24 @@ module _ (h : Handed) (truth was list' row' : List ℕ) where
 
   -- and is told with the row
   pub told_list : (m k : ℕ) → Decodes h (answer.Decoded m k) list' row'
-      → (r : Reply) (out : List ℕ) → Replied (told (shot_text row' (mid_of 0 (k - 0) list')) (differs row' truth)) r was out → Replied (decoded_shot h truth) r was out
+      → (r : Result Reply Refusal) (out : List ℕ) → Replied (told (shot_text row' (mid_of 0 (k - 0) list')) (differs row' truth)) r was out → Replied (decoded_shot h truth) r was out
   unfolding decoded_shot
   told_list m k d r out p = by_list (graph_of_call h) h.row truth was m k h.list list' row' (checks h) (decoded h) d.answers d.lists d.rows r out p
 
 -- ---- both packings
 
 module _ (D O n : ℕ) (u v : List ℕ) (weight : List Float) (obs shot truth was : List ℕ) where
-  pub row_refused : (x : Refusal) → packed.Refused x ≡ packed_of shot 1 D → Replied (shot_outcome D O n u v weight obs shot truth) (reply.Refused x) was was
+  pub row_refused : (x : Refusal) → Err x ≡ packed_of shot 1 D → Replied (shot_outcome D O n u v weight obs shot truth) (Err x) was was
   unfolding shot_outcome
   row_refused x e = rw (refused_same shot 1 D x (sym e)) (record { answer = refl; text = refl })
 
-  pub truth_refused : (m : ℕ) (x : Refusal) → packed.Rows m ≡ packed_of shot 1 D → packed.Refused x ≡ packed_of truth 1 O
-      → Replied (shot_outcome D O n u v weight obs shot truth) (reply.Refused x) was was
+  pub truth_refused : (m : ℕ) (x : Refusal) → Ok m ≡ packed_of shot 1 D → Err x ≡ packed_of truth 1 O
+      → Replied (shot_outcome D O n u v weight obs shot truth) (Err x) was was
   unfolding shot_outcome
   truth_refused m x p e = rw ((rows_accepted shot 1 D m (sym p)).0, refused_same truth 1 O x (sym e)) (record { answer = refl; text = refl })
 
-  pub both_packed : (m k : ℕ) → packed.Rows m ≡ packed_of shot 1 D → packed.Rows k ≡ packed_of truth 1 O → length truth ≤ 2
-      → (r : Reply) (out : List ℕ) → Replied (decoded_shot (handed_for D O n u v weight obs shot (mid_of 0 (length truth - 0) two_zeros) (replicate 256 0)) truth) r was out
+  pub both_packed : (m k : ℕ) → Ok m ≡ packed_of shot 1 D → Ok k ≡ packed_of truth 1 O → length truth ≤ 2
+      → (r : Result Reply Refusal) (out : List ℕ) → Replied (decoded_shot (handed_for D O n u v weight obs shot (mid_of 0 (length truth - 0) two_zeros) (replicate 256 0)) truth) r was out
       → Replied (shot_outcome D O n u v weight obs shot truth) r was out
   unfolding shot_outcome
   both_packed m k p q few r out d =
@@ -119,6 +115,6 @@ module _ (D O n : ℕ) (u v : List ℕ) (weight : List Float) (obs shot truth wa
       let b = (rows_accepted truth 1 O k (sym q)).0 in
       let long : length truth ≡ words O = (accepted_sound truth 1 O b).long ∙ one-mul (words O) in
       let zeros : mid_of 0 (length truth - 0) two_zeros ≡ replicate (words O) 0 = zero_row_lem (length truth) few ∙ ap (λ (w : ℕ). replicate w 0) long in
-      let c : and_then (check_packed shot 1 D) (check_packed truth 1 O) ≡ Accepted = ap (λ (x : Checked). and_then x (check_packed truth 1 O)) a ∙ b in
+      let c : and_then (check_packed shot 1 D) (check_packed truth 1 O) ≡ Ok tt = ap (λ (x : Checked). and_then x (check_packed truth 1 O)) a ∙ b in
       subst (λ (x : Checked). Replied (only_then x (decoded_shot (handed_for D O n u v weight obs shot (replicate (words O) 0) (replicate 256 0)) truth)) r was out) (sym c)
       (subst (λ (x : List ℕ). Replied (decoded_shot (handed_for D O n u v weight obs shot x (replicate 256 0)) truth) r was out) zeros d)

@@ -1,12 +1,13 @@
 -- Two lines one after the other, and rows that differ.
-use Prim.Native.Nat.{ℕ, zero, suc, ◌+◌, ◌-◌, ◌*◌, ◌<◌, ◌≤◌}
+use Prim.Native.Nat.{ℕ, zero, suc, ◌+◌, ◌-◌, ◌*◌, ◌≤◌}
 use native.Mathlib.Omega.{arith}
 use mathlib.Core.Path.{◌≡◌, refl, sym, ap, ◌∙◌}
 use mathlib.Core.List.{List, [], ◌∷◌, ◌++◌, append-nil, append_assoc}
-use mathlib.Core.Bool.{Bool, true, false, not, ◌||◌}
-use lib.ListN.{length, get_or, take, drop, replicate, length-append, drop_of_length-le}
-use lib.Seq.{take-append_seam, drop-append_seam, take_all, drop-drop, drop-cons}
+use mathlib.Core.Bool.{Bool, true, false, not, ◌||◌, ◌&&◌}
+use lib.ListN.{length, drop, replicate, length-append, drop_of_length-le}
+use lib.Seq.{take-append_seam, drop-append_seam, take_all, drop-drop}
 use lib.Dec.{eqb}
+use lib.Pointwise.{pointwise}
 use borrow.Rule.Slice.PartMut.{mid_of, put_mid}
 use Rattle.hex_text.specs.Hex.{text_of, bytes_in, bytes_each}
 use Rattle.hex_text.proofs.Texts.{text_long, in_long, each_long}
@@ -28,24 +29,17 @@ pub two_lines : (a b was out part : List ℕ) (n : ℕ) → n ≡ length a → o
     → put_mid n (length out - n) out part ≡ written (a ++ b) was
 two_lines a b was out part n e q p = rw (p, e, q) (core a b was)
 
-module _ (row truth : List ℕ) (i : ℕ) where
-  module _ (h : i < length row) (e : length row ≡ length truth) where
-    -- rows of one length, from word i on
-    next : differs (drop i row) (drop i truth) ≡ (not (eqb (get_or row i 0) (get_or truth i 0)) || differs (drop (suc i) row) (drop (suc i) truth))
-    unfolding differs
-    next = rw (drop-cons row i 0 h, drop-cons truth i 0 (omega (arith, h, e))) refl
-
-    pub differs_here : eqb (get_or row i 0) (get_or truth i 0) ≡ false → differs (drop i row) (drop i truth) ≡ true
-    differs_here f = next ∙ rw f refl
-
-    pub differs_later : eqb (get_or row i 0) (get_or truth i 0) ≡ true → differs (drop i row) (drop i truth) ≡ differs (drop (i + 1) row) (drop (i + 1) truth)
-    differs_later t =
-        let q : suc i ≡ i + 1 = omega arith in
-        next ∙ rw t (ap (λ (j : ℕ). differs (drop j row) (drop j truth)) q)
-
-  pub differs_end : length row ≤ i → differs (drop i row) (drop i truth) ≡ false
-  unfolding differs
-  differs_end h = rw (drop_of_length-le row h) refl
+-- rows of one length differ where they are not the same
+pub differs_is : (row truth : List ℕ) → length row ≡ length truth → not (pointwise eqb row truth) ≡ differs row truth
+unfolding differs
+differs_is [] [] e = refl
+differs_is [] (y ∷ truth) e = absurd (omega (arith, e))
+differs_is (x ∷ row) [] e = refl
+differs_is (x ∷ row) (y ∷ truth) e = first (eqb x y) (pointwise eqb row truth) ∙ ap (λ (b : Bool). not (eqb x y) || b) (differs_is row truth (omega (arith, e)))
+  where
+    first : (a b : Bool) → not (a && b) ≡ (not a || not b)
+    first true b = refl
+    first false b = refl
 
 abbrev pub two_zeros : List ℕ
 two_zeros = 0 ∷ 0 ∷ []

@@ -1,11 +1,9 @@
 -- What a shot comes to at its 06: docs/RULES.md, "Frames" and "The rate".
-use Rattle.std.specs.Prelude.{ℕ, Bool, true, false, not, ◌||◌, List, [], ◌∷◌, ◌++◌, length, replicate, eqb, Float}
+use Rattle.std.specs.Prelude.{Ok, Err, ℕ, Bool, true, false, not, ◌||◌, List, [], ◌∷◌, ◌++◌, replicate, eqb, Float}
 use Rattle.bits.specs.Rows.{words}
 use Rattle.codes.specs.declared.Refusal.{Refusal}
 use Rattle.codes.specs.declared.Refusal.TheVariants.{Stuck}
-use Rattle.codes.specs.declared.Checked.{Checked}
-use Rattle.codes.specs.declared.Checked.TheVariants.{Accepted, Refused}
-use Rattle.codes.specs.Order.{and_then}
+use Rattle.codes.specs.Order.{Checked, and_then}
 use Rattle.packed.specs.Packed.{check_packed}
 use Rattle.steps.specs.Graph.{Graph}
 use Rattle.steps.specs.Shot.{Decoded, impossible, corrected, row_after}
@@ -39,8 +37,8 @@ by_decoded g was truth (impossible n d) = refused (Stuck 0 d)
 by_decoded g was truth (corrected n list) = told (shot_text (row_after g was list) list) (differs (row_after g was list) truth)
 
 abbrev pub only_then : Checked → Outcome → Outcome
-only_then (Refused r) x = refused r
-only_then Accepted x = x
+only_then (Err r) x = refused r
+only_then (Ok tt) x = x
 
 -- ---- the call
 

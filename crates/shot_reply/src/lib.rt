@@ -7,15 +7,15 @@ ghost use Rattle.decoder.specs.Answer.{Decodes};
 ghost use Rattle.shot_reply.specs.Outcome.{told, shot_text, differs, handed_for, decoded_shot, shot_outcome};
 ghost use Rattle.shot_reply.specs.Replied.{Replied};
 
+use adjacency::Neighbor;
 use codes::Refusal;
 use decoder::Answer;
-use packed::Packed;
 
+// How many bytes were written, and whether an observable differs from the true one.
 #[derive(Clone, Copy)]
-pub enum Reply {
-    // how many bytes were written, and whether an observable differs from the true one
-    Decoded { written: usize, failed: bool },
-    Refused(Refusal),
+pub struct Reply {
+    pub written: usize,
+    pub failed: bool,
 }
 
 // Whether two rows differ in any word.
@@ -23,14 +23,7 @@ fn differs(row: &[u64], truth: &[u64]) -> bool
     requires { length row.now ≡ length truth.now }
     ensures { result ≡ differs row.now truth.now }
 {
-    let mut i = 0;
-    while i < row.len() {
-        if row[i] != truth[i] {
-            return true;
-        }
-        i += 1;
-    }
-    false
+    row != truth
 }
 
 // The shot decoded over scratch of its own, for at most 256 detectors and 1,024 edges. Long for its parameters, one a line.
@@ -49,11 +42,11 @@ fn decode(
     ensures { Decodes (handed_for detectors observables edges edge_u.now edge_v.now edge_weight.now edge_obs.now shot.now row.old list.old) result list.new row.new }
 {
     let mut adj_offsets = [0u32; 257];
-    let mut adj = [[0u32; 2]; 2048];
-    let mut tree = [[0u32; 2]; 256];
-    let mut flags = [[false; 8]; 256];
-    let mut stacks = [[0u32; 6]; 256];
-    let mut links = [[0u32; 4]; 1025];
+    let mut adj = [Neighbor { edge: 0, other: 0 }; 2048];
+    let mut tree = [cells::NODE; 256];
+    let mut flags = [cells::FLAGS; 256];
+    let mut stacks = [cells::STACK; 256];
+    let mut links = [cells::LINK; 1025];
     let mut growth = [0.0f64; 1024];
     let mut sat = [false; 1024];
     decoder::decode_shot(
@@ -91,11 +84,11 @@ fn write_shot(row: &[u64], list: &[u32], out: &mut [u8]) -> usize
 // The lines of a shot that was decoded.
 fn tell(row: &[u64], list: &[u32], truth: &[u64], out: &mut [u8]) -> Reply
     requires { (length row.now ≡ length truth.now) × (10 + 16 * length row.now + 4 * length list.now ≤ length out.old) }
-    ensures { Replied (told (shot_text row.now list.now) (differs row.now truth.now)) result out.old out.new }
+    ensures { Replied (told (shot_text row.now list.now) (differs row.now truth.now)) (Ok result) out.old out.new }
 {
     let failed = differs(row, truth);
     let written = write_shot(row, list, out);
-    Reply::Decoded { written, failed }
+    Reply { written, failed }
 }
 
 // The shot decoded into a row and a list, and told. Long for its parameters, one a line.
@@ -112,7 +105,7 @@ fn decode_told(
     row: &mut [u64],
     list: &mut [u32],
     out: &mut [u8],
-) -> Reply
+) -> Result<Reply, Refusal>
     requires { (length row.old ≡ length truth.now) × (10 + 16 * length row.old + 4 * length list.old ≤ length out.old) }
     ensures { Replied (decoded_shot (handed_for detectors observables edges edge_u.now edge_v.now edge_weight.now edge_obs.now shot.now row.old list.old) truth.now) result out.old out.new }
 {
@@ -129,15 +122,12 @@ fn decode_told(
         list,
     );
     match answer {
-        Answer::Refused(r) => Reply::Refused(r),
+        Answer::Refused(r) => Err(r),
         Answer::Stuck {
             rounds: _,
             detector,
-        } => Reply::Refused(Refusal::Stuck {
-            shot: 0,
-            detector: detector,
-        }),
-        Answer::Decoded { rounds: _, length } => tell(row, &list[0..length], truth, out),
+        } => Err(Refusal::Stuck { shot: 0, detector }),
+        Answer::Decoded { rounds: _, length } => Ok(tell(row, &list[0..length], truth, out)),
     }
 }
 
@@ -153,18 +143,12 @@ pub fn shot_reply(
     shot: &[u64],
     truth: &[u64],
     out: &mut [u8],
-) -> Reply
+) -> Result<Reply, Refusal>
     requires { (length truth.now ≤ 2) × (1066 ≤ length out.old) }
     ensures { Replied (shot_outcome detectors observables edges edge_u.now edge_v.now edge_weight.now edge_obs.now shot.now truth.now) result out.old out.new }
 {
-    let rows = packed::try_from_shot_major(shot, 1, detectors);
-    if let Packed::Refused(r) = rows {
-        return Reply::Refused(r);
-    }
-    let truths = packed::try_from_shot_major(truth, 1, observables);
-    if let Packed::Refused(r) = truths {
-        return Reply::Refused(r);
-    }
+    packed::try_from_shot_major(shot, 1, detectors)?;
+    packed::try_from_shot_major(truth, 1, observables)?;
     let mut row = [0u64; 2];
     let mut list = [0u32; 256];
     let words = truth.len();

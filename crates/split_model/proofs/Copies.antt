@@ -1,7 +1,7 @@
 -- The kept mechanisms in the output tables.
 use Prim.Native.Nat.{ℕ, ◌≤◌}
 use native.Mathlib.Omega.{arith}
-use mathlib.Core.Path.{◌≡◌, refl, sym, ap, ◌∙◌}
+use mathlib.Core.Path.{◌≡◌, sym, ap, ◌∙◌}
 use mathlib.Core.List.{List}
 use mathlib.Core.Bool.{true}
 use lib.ListN.{length, take}
@@ -13,7 +13,7 @@ use Rattle.dem.specs.Tables.{Tables, model_of, entries_in, components_in, lists_
 use Rattle.dem.specs.Positions.{tables, total}
 use Rattle.dem.specs.Decompose.{kept_of}
 use Rattle.dem.proofs.Positions.{reached_of, components_sum}
-use Rattle.kept.specs.Columns.{kept_by, kept_column, kept_parts, kept_tables}
+use Rattle.kept.specs.Columns.{kept_column, kept_parts, kept_tables}
 use Rattle.kept.proofs.Kept.{kept_tables_lem}
 use Rattle.suggested.proofs.Models.{lengths}
 

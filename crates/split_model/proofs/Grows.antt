@@ -1,10 +1,10 @@
 -- What splitting leaves of the model: lists and components stay, and new mechanisms have no components.
+use Rattle.std.specs.Prelude.{Option, None, Some}
 use Prim.Native.Nat.{ℕ, zero, suc, ◌+◌, ◌≤◌}
 use native.Mathlib.Omega.{arith}
 use mathlib.Core.Path.{◌≡◌, refl, sym, ap, ◌∙◌, subst}
 use mathlib.Core.List.{List, [], ◌∷◌, ◌++◌, append_assoc, append-nil}
 use mathlib.Core.Bool.{false}
-use mathlib.Core.Option.{Option, none, some}
 use lib.ListN.{length, replicate, length-append, replicate-append-replicate}
 use lib.IntN.{pos}
 use lib.Ieee.{Float, fin}
@@ -100,10 +100,10 @@ pub record Step (most : ℕ) (a b : List ErrorMechanism) : Type 0 where
 
 one_component : (room : Places) (p : Float) (s : Symptom) (a : List ErrorMechanism) (o : Option ℕ) (b : List ErrorMechanism) → add_component room p s a o ≡ into b → Step 1 a b
 unfolding add_component
-one_component room p s a (some k) b e =
+one_component room p s a (Some k) b e =
     let q : add_at p k a ≡ b = cc in
     subst (Step 1 a) q (record { grows = grows_raised p k a; few = omega (arith, raised_length p k a) })
-one_component room p s a none b e = case-of (has_place room s a)
+one_component room p s a None b e = case-of (has_place room s a)
     (λ t. let w = rw t at e in let q : a ++ (fresh p s ∷ []) ≡ b = cc in
     subst (Step 1 a) q (record { grows = grows_new p s a; few = omega (arith, length-append a (fresh p s ∷ [])) }))
     (λ f. let w = rw f at e in none_in Limit b w)
@@ -130,8 +130,8 @@ all_members p (c ∷ cs) a =
     record { grows = grows_then a (add_at p c a) (add_all p cs (add_at p c a)) (grows_raised p c a) r.grows; few = omega (arith, r.few, raised_length p c a) }
 
 by_cover_lem : (p : Float) (i : ℕ) (a : List ErrorMechanism) (x : Option (List ℕ)) (b : List ErrorMechanism) → by_cover p i a x ≡ into b → Step 0 a b
-by_cover_lem p i a none b e = none_in (NoCover i) b e
-by_cover_lem p i a (some cs) b e = let q : add_all p cs a ≡ b = cc in subst (Step 0 a) q (all_members p cs a)
+by_cover_lem p i a None b e = none_in (NoCover i) b e
+by_cover_lem p i a (Some cs) b e = let q : add_all p cs a ≡ b = cc in subst (Step 0 a) q (all_members p cs a)
 
 pub one_mechanism : (room : Places) (ks : List Symptom) (i : ℕ) (m : ErrorMechanism) (a b : List ErrorMechanism) → split_one room ks i m a ≡ into b → Step (length m.components) a b
 unfolding split_one

@@ -3,9 +3,9 @@ use Prim.Native.Nat.{ℕ, zero, suc, ◌+◌, ◌-◌, ◌<◌, ◌≤◌}
 use native.Mathlib.Numerals.{add-one}
 use native.Mathlib.Omega.{arith}
 use mathlib.Core.Path.{◌≡◌, refl, sym, ap, ap₂, ◌∙◌, subst}
-use mathlib.Core.List.{List, [], ◌∷◌, ◌++◌, append-nil}
+use mathlib.Core.List.{List, [], ◌∷◌, ◌++◌}
 use mathlib.Core.Bool.{Bool, true, false, cond, ◌&&◌}
-use lib.ListN.{length, get_or, take, drop, length-append, get_or-append}
+use lib.ListN.{length, get_or, drop, length-append, get_or-append}
 use lib.Seq.{get_or-append_seam, drop-append_seam, drop-drop}
 use lib.Dec.{eqb, leb}
 use lib.Ieee.{Float}
@@ -13,9 +13,9 @@ use borrow.Author.Tests.{eqb-true, eqb-false}
 use Rattle.lists.specs.Lists.{filter}
 use Rattle.lists.proofs.Truth.{case-of, and_left, and_right}
 use Rattle.lists.proofs.Ranges.{filter_append}
-use Rattle.dem.specs.Model.{Symptom, ErrorMechanism, list_fits, symptom_fits, symptoms_fit, lists_fit}
+use Rattle.dem.specs.Model.{Symptom, ErrorMechanism, list_fits, symptom_fits, lists_fit}
 use Rattle.dem.specs.Tables.{Tables, first_of, model_of, entries_in, tables_hold, tables_of, symptom_entries, written}
-use Rattle.dem.specs.Positions.{head_of, mechanism_at, place_of, tables_from, Inside}
+use Rattle.dem.specs.Positions.{head_of, mechanism_at, place_of, Inside}
 use Rattle.dem.specs.Laws.{Reached}
 use Rattle.dem.specs.Decompose.{is_graphlike, kept_of, entries_of}
 use Rattle.dem.proofs.Positions.{first_from, model_split, inside_of, reached_of, hold_of}

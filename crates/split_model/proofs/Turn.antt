@@ -1,33 +1,31 @@
 -- Each larger mechanism, in order: what is left to do from the model so far gives the whole.
-use Prim.Native.Nat.{ℕ, zero, suc, ◌+◌, ◌-◌, ◌*◌, ◌<◌, ◌≤◌}
+use Rattle.std.specs.Prelude.{Result, Ok, Err}
+use Prim.Native.Nat.{ℕ, suc, ◌+◌, ◌-◌, ◌*◌, ◌<◌, ◌≤◌}
 use native.Mathlib.Numerals.{add-one}
 use native.Mathlib.Omega.{arith}
 use mathlib.Core.Path.{◌≡◌, refl, sym, ap, ap₂, ◌∙◌, subst}
-use mathlib.Core.List.{List, [], ◌∷◌, ◌++◌, map}
+use mathlib.Core.List.{List, []}
 use mathlib.Core.Bool.{Bool, true, false, cond}
-use lib.ListN.{length, get_or, take, drop, length-append, length-map, get_or-append, get_or-map}
+use lib.ListN.{length, get_or, length-append, length-map, get_or-append, get_or-map}
 use lib.Dec.{leb}
 use lib.Ieee.{Float, nan}
-use borrow.Author.Tests.{le-leb, lt-leb, leb-true}
+use borrow.Author.Tests.{le-leb, lt-leb}
 use Rattle.lists.proofs.Members.{get_d_any}
 use Rattle.codes.specs.declared.Refusal.{Refusal}
-use Rattle.dem.specs.declared.Mechanism.{Mechanism}
 use Rattle.dem.specs.declared.Place.{Place}
 use Rattle.dem.specs.Model.{Symptom, ErrorMechanism, lists_fit}
 use Rattle.dem.specs.Tables.{Tables, model_of, entries_in, tables_hold}
 use Rattle.dem.specs.Positions.{head_of, mechanism_at, place_past, Inside, place_of, tables_from}
 use Rattle.dem.specs.Laws.{Reached}
 use Rattle.dem.specs.Cover.{none_such}
-use Rattle.dem.specs.Decompose.{Places, Split, into, refused, is_graphlike, split_one, split_next, split_all, kept_of, decompose}
-use Rattle.dem.proofs.Positions.{reached_of, inside_of, past_inside, model_next, first_from, place_next, entries_le, from_zero}
+use Rattle.dem.specs.Decompose.{Split, into, refused, is_graphlike, split_one, split_next, split_all, kept_of, decompose}
+use Rattle.dem.proofs.Positions.{reached_of, inside_of, model_next, first_from, place_next, entries_le, from_zero}
 use Rattle.dem.proofs.Laws.{at, reached}
 use Rattle.kept.proofs.Kept.{many_detectors, its_components}
 use Rattle.suggested.specs.declared.Size.{Size}
 use Rattle.suggested.specs.Held.{places_of, size_of, Holds, Roomy}
-use Rattle.splits.specs.declared.Step.{Step}
-use Rattle.splits.specs.declared.Step.TheVariants.{Grown, Refused}
 use Rattle.splits.specs.Ready.{Large, Ready, Front, After}
-use Rattle.splits.proofs.Ways.{few_components, own_components}
+use Rattle.splits.proofs.Ways.{few_components}
 use Rattle.split_model.specs.Begun.{symptoms_of}
 use Rattle.split_model.proofs.Grows.{one_mechanism, stays}
 use Rattle.split_model.specs.Laws.{Grows}
@@ -35,32 +33,12 @@ use Rattle.split_model.specs.Laws.{Grows}
 nothing : ErrorMechanism
 nothing = record { probability = nan; symptom = none_such; components = [] }
 
--- ---- numbers, over variables
-
-pub none_yet : (n : ℕ) → 0 ≤ n
-none_yet n = omega arith
-
-pub no_more : (n : ℕ) → n ≤ n
-no_more n = omega arith
-
-pub next_within : (i n : ℕ) → i < n → i + 1 ≤ n
-next_within i n l = omega arith
-
-pub fewer_left : (i n : ℕ) → i < n → n - (i + 1) < n - i
-fewer_left i n l = omega arith
-
-pub head_held : (i n : ℕ) (t : Tables) → tables_hold n t ≡ true → i < n
-    → (i < length t.probability) × (i < length t.detector_counts) × (i < length t.observable_counts) × (i < length t.component_counts)
-head_held i n t h l =
-    let k = reached_of n t h in
-    (omega (arith, k.probability), omega (arith, k.detectors), omega (arith, k.observables), omega (arith, k.components))
-
-pub room_here : (n i base : ℕ) (size room : Size) (starts counts others : List ℕ) (ps : List Float) (before starts' counts' others' : List ℕ) (ps' : List Float) (before' : List ℕ)
+pub room_here : (n i base : ℕ) (starts counts others : List ℕ) (ps : List Float) (before : List ℕ) {size room : Size} {starts' counts' others' : List ℕ} {ps' : List Float} {before' : List ℕ}
     → i < n → size.mechanisms ≤ base + 16 * i → base + 16 * n ≤ length starts → base + 16 * n ≤ length before
     → room.mechanisms ≤ length counts → room.mechanisms ≤ length others → room.mechanisms ≤ length ps
     → length starts' ≡ length starts → length counts' ≡ length counts → length others' ≡ length others → length ps' ≡ length ps → length before' ≡ length before
     → Roomy 16 size room starts' counts' others' ps' before'
-room_here n i base size room starts counts others ps before starts' counts' others' ps' before' l few hs hb hc ho hp es ec eo ep eb = record {
+room_here n i base starts counts others ps before l few hs hb hc ho hp es ec eo ep eb = record {
   starts_hold = omega arith;
   before_hold = omega arith;
   counts_hold = omega arith;
@@ -70,10 +48,10 @@ room_here n i base size room starts counts others ps before starts' counts' othe
 
 -- ---- mechanism i of the tables
 
-module _ (D n i : ℕ) (t : Tables) (hold : tables_hold n t ≡ true) (l : i < n) where
-  abbrev here : ErrorMechanism
-  here = mechanism_at (head_of i t) (place_of i t) t.component_detectors t.component_observables t.entries
+abbrev here : ℕ → Tables → ErrorMechanism
+here i t = mechanism_at (head_of i t) (place_of i t) t.component_detectors t.component_observables t.entries
 
+module _ {n i : ℕ} (t : Tables) (hold : tables_hold n t ≡ true) (l : i < n) where
   next_reached : Reached (suc i) t
   next_reached = reached (suc i) n t (omega arith) hold
 
@@ -83,25 +61,25 @@ module _ (D n i : ℕ) (t : Tables) (hold : tables_hold n t ≡ true) (l : i < n
   pub ends_here : (place_past (head_of i t) (place_of i t) t.component_detectors t.component_observables).entry ≤ entries_in n t
   ends_here = omega (arith, ap (λ (p : Place). p.entry) (place_next i t), entries_le (i + 1) n t (omega arith))
 
-  pub graphlike_here : is_graphlike here ≡ leb (get_or t.detector_counts i 0) 2
+  pub graphlike_here : is_graphlike (here i t) ≡ leb (get_or t.detector_counts i 0) 2
   graphlike_here = ap (λ (k : ℕ). leb k 2) (many_detectors i t next_reached)
 
-  pub large_here : ((k : ℕ) (z : ErrorMechanism) → k < n → lists_fit D 128 (get_or (model_of n t) k z) ≡ true) → entries_in n t < 4294967296
+  pub large_here : {D : ℕ} → ((k : ℕ) (z : ErrorMechanism) → k < n → lists_fit D 128 (get_or (model_of n t) k z) ≡ true) → entries_in n t < 4294967296
       → 2 < get_or t.detector_counts i 0 → Large D (head_of i t) (place_of i t) t.component_detectors t.component_observables t.entries
-  large_here f s d = record {
+  large_here {D} f s d = record {
     over_two = d;
     inside = inside_here;
     small = omega (arith, ends_here);
     checked = ap (lists_fit D 128) (sym (at i n t nothing l ∙ first_from i t)) ∙ f i nothing l;
   }
 
-  pub few_here : Large D (head_of i t) (place_of i t) t.component_detectors t.component_observables t.entries → length here.components ≤ 16
-  few_here k = omega (arith, its_components i t next_reached, few_components D (head_of i t) (place_of i t) t.component_detectors t.component_observables t.entries k)
+  pub few_here : {D : ℕ} → Large D (head_of i t) (place_of i t) t.component_detectors t.component_observables t.entries → length (here i t).components ≤ 16
+  few_here k = omega (arith, its_components i t next_reached, few_components k)
 
 -- the scratch tables may hold anything
-pub ready_same : (ks : List Symptom) (n : ℕ) (first next a b c d e a' b' c' d' e' : List ℕ) → Ready ks n first next a b c d e
+pub ready_same : {ks : List Symptom} {n : ℕ} {first next a b c d e a' b' c' d' e' : List ℕ} → Ready ks n first next a b c d e
     → length a' ≡ length a → length b' ≡ length b → length c' ≡ length c → length d' ≡ length d → length e' ≡ length e → Ready ks n first next a' b' c' d' e'
-ready_same ks n first next a b c d e a' b' c' d' e' r p q s t u = record {
+ready_same r p q s t u = record {
   counted = r.counted;
   chains = r.chains;
   linked = r.linked;
@@ -138,94 +116,84 @@ front_first a =
 
 -- ---- the model so far
 
-module _ (n : ℕ) (t : Tables) (ks : List Symptom) (room : Size) (was : Tables) (base : ℕ) where
-  pub record Going (i : ℕ) (size : Size) (starts counts others : List ℕ) (ps : List Float) (last before : List ℕ) : Type 0 where
-    pub model : List ErrorMechanism
-    pub holds : Holds model was size t.entries starts counts others ps last before
-    pub front : Front ks model
-    pub few : size.mechanisms ≤ base + 16 * i
-    pub left : split_all (places_of room) ks i (model_of (n - i) (tables_from i t)) (into model) ≡ split_all (places_of room) ks 0 (model_of n t) (into (kept_of (model_of n t)))
+abbrev pub kept_lists : ℕ → Tables → List Symptom
+kept_lists n t = symptoms_of (kept_of (model_of n t))
 
-  whole : Split
-  whole = split_all (places_of room) ks 0 (model_of n t) (into (kept_of (model_of n t)))
+-- what is left to do from it gives the whole
+pub record Going (n : ℕ) (t was : Tables) (room : Size) (base i : ℕ) (size : Size) (starts counts others : List ℕ) (ps : List Float) (last before : List ℕ) : Type 0 where
+  pub model : List ErrorMechanism
+  pub holds : Holds model was size t.entries starts counts others ps last before
+  pub front : Front (kept_lists n t) model
+  pub few : size.mechanisms ≤ base + 16 * i
+  pub left : split_all (places_of room) (kept_lists n t) i (model_of (n - i) (tables_from i t)) (into model) ≡ decompose (places_of room) (model_of n t)
 
-  pub going_first : (size : Size) (starts counts others : List ℕ) (ps : List Float) (last before : List ℕ)
-      → Holds (kept_of (model_of n t)) was size t.entries starts counts others ps last before → Front ks (kept_of (model_of n t)) → size.mechanisms ≤ base
-      → Going 0 size starts counts others ps last before
-  going_first size starts counts others ps last before h f b = record {
+module _ {n : ℕ} (t : Tables) {was : Tables} {room : Size} where
+  pub going_first : {size : Size} {starts counts others : List ℕ} {ps : List Float} {last before : List ℕ}
+      → Holds (kept_of (model_of n t)) was size t.entries starts counts others ps last before → Going n t was room size.mechanisms 0 size starts counts others ps last before
+  unfolding decompose
+  going_first h = record {
     model = kept_of (model_of n t);
     holds = h;
-    front = f;
+    front = front_first (kept_of (model_of n t));
     few = omega arith;
-    left = ap₂ (λ (k : ℕ) (u : Tables). split_all (places_of room) ks 0 (model_of k u) (into (kept_of (model_of n t)))) (omega arith) (from_zero t);
+    left = ap₂ (λ (k : ℕ) (u : Tables). split_all (places_of room) (kept_lists n t) 0 (model_of k u) (into (kept_of (model_of n t)))) (omega arith) (from_zero t);
   }
 
-  module _ (i : ℕ) (size : Size) (starts counts others : List ℕ) (ps : List Float) (last before : List ℕ) (g : Going i size starts counts others ps last before)
-      (hold : tables_hold n t ≡ true) (l : i < n) where
-    abbrev m : ErrorMechanism
-    m = mechanism_at (head_of i t) (place_of i t) t.component_detectors t.component_observables t.entries
+  module _ {base i : ℕ} {size : Size} {starts counts others : List ℕ} {ps : List Float} {last before : List ℕ} (g : Going n t was room base i size starts counts others ps last before) where
+    module _ (hold : tables_hold n t ≡ true) (l : i < n) where
+      left_here : split_all (places_of room) (kept_lists n t) (i + 1) (model_of (n - (i + 1)) (tables_from (i + 1) t)) (split_next (places_of room) (kept_lists n t) i (here i t) (into g.model)) ≡ decompose (places_of room) (model_of n t)
+      unfolding split_all
+      left_here =
+          ap (λ (k : ℕ). split_all (places_of room) (kept_lists n t) k (model_of (n - (i + 1)) (tables_from (i + 1) t)) (split_next (places_of room) (kept_lists n t) i (here i t) (into g.model))) (add-one i)
+          ∙ ap (λ (ms : List ErrorMechanism). split_all (places_of room) (kept_lists n t) i ms (into g.model)) (sym (model_next i n t l)) ∙ g.left
 
-    rest : List ErrorMechanism
-    rest = model_of (n - (i + 1)) (tables_from (i + 1) t)
+      next_is : (b : Bool) → leb (get_or t.detector_counts i 0) 2 ≡ b → split_next (places_of room) (kept_lists n t) i (here i t) (into g.model) ≡ cond b (into g.model) (split_one (places_of room) (kept_lists n t) i (here i t) g.model)
+      next_is b e = ap (λ (c : Bool). cond c (into g.model) (split_one (places_of room) (kept_lists n t) i (here i t) g.model)) (graphlike_here t hold l ∙ e)
 
-    left_here : split_all (places_of room) ks (i + 1) (model_of (n - (i + 1)) (tables_from (i + 1) t)) (split_next (places_of room) ks i m (into g.model)) ≡ split_all (places_of room) ks 0 (model_of n t) (into (kept_of (model_of n t)))
-    unfolding split_all
-    left_here =
-        ap (λ (k : ℕ). split_all (places_of room) ks k (model_of (n - (i + 1)) (tables_from (i + 1) t)) (split_next (places_of room) ks i m (into g.model))) (add-one i)
-        ∙ ap (λ (ms : List ErrorMechanism). split_all (places_of room) ks i ms (into g.model)) (sym (model_next i n t l)) ∙ g.left
+      -- one of at most two detectors is kept as it is
+      pub going_kept : get_or t.detector_counts i 0 ≤ 2 → Going n t was room base (i + 1) size starts counts others ps last before
+      going_kept d = record {
+        model = g.model;
+        holds = g.holds;
+        front = g.front;
+        few = omega (arith, g.few);
+        left = ap (split_all (places_of room) (kept_lists n t) (i + 1) (model_of (n - (i + 1)) (tables_from (i + 1) t))) (sym (next_is true (le-leb _ _ d))) ∙ left_here;
+      }
 
-    next_is : (b : Bool) → leb (get_or t.detector_counts i 0) 2 ≡ b → split_next (places_of room) ks i m (into g.model) ≡ cond b (into g.model) (split_one (places_of room) ks i m g.model)
-    next_is b e = ap (λ (c : Bool). cond c (into g.model) (split_one (places_of room) ks i m g.model)) (graphlike_here 0 n i t hold l ∙ e)
+      module _ {D : ℕ} (large : Large D (head_of i t) (place_of i t) t.component_detectors t.component_observables t.entries) where
+        left_one : split_all (places_of room) (kept_lists n t) (i + 1) (model_of (n - (i + 1)) (tables_from (i + 1) t)) (split_one (places_of room) (kept_lists n t) i (here i t) g.model) ≡ decompose (places_of room) (model_of n t)
+        left_one = ap (split_all (places_of room) (kept_lists n t) (i + 1) (model_of (n - (i + 1)) (tables_from (i + 1) t))) (sym (next_is false (lt-leb _ _ large.over_two))) ∙ left_here
 
-    -- one of at most two detectors is kept as it is
-    pub going_kept : get_or t.detector_counts i 0 ≤ 2 → Going (i + 1) size starts counts others ps last before
-    going_kept d = record {
-      model = g.model;
-      holds = g.holds;
-      front = g.front;
-      few = omega (arith, g.few);
-      left = ap (split_all (places_of room) ks (i + 1) (model_of (n - (i + 1)) (tables_from (i + 1) t))) (sym (next_is true (le-leb _ _ d))) ∙ left_here;
-    }
+        one_of : {starts' counts' others' : List ℕ} {ps' : List Float} {last' before' : List ℕ} (x : Split) (s : Size) → split_one (places_of room) (kept_lists n t) i (here i t) g.model ≡ x → After x was (Ok s) t.entries starts' counts' others' ps' last' before' → Going n t was room base (i + 1) s starts' counts' others' ps' last' before'
+        one_of (into b) s e o =
+            let w : s ≡ size_of b = cc o.0 in
+            let k = one_mechanism (places_of room) (kept_lists n t) i (here i t) g.model b e in
+            record {
+              model = b;
+              holds = rw w o.1;
+              front = front_grows (kept_lists n t) g.model b g.front k.grows;
+              few = omega (arith, g.few, k.few, few_here t hold l large, ap (λ (u : Size). u.mechanisms) w, ap (λ (u : Size). u.mechanisms) g.holds.sized);
+              left = ap (split_all (places_of room) (kept_lists n t) (i + 1) (model_of (n - (i + 1)) (tables_from (i + 1) t))) (sym e) ∙ left_one;
+            }
+        one_of (refused x) s e o = absurd (cc o)
 
-    module _ (d : 2 < get_or t.detector_counts i 0) (few-parts : length m.components ≤ 16)
-        (starts' counts' others' : List ℕ) (ps' : List Float) (last' before' : List ℕ) where
-      left_one : split_all (places_of room) ks (i + 1) (model_of (n - (i + 1)) (tables_from (i + 1) t)) (split_one (places_of room) ks i m g.model) ≡ split_all (places_of room) ks 0 (model_of n t) (into (kept_of (model_of n t)))
-      left_one = ap (split_all (places_of room) ks (i + 1) (model_of (n - (i + 1)) (tables_from (i + 1) t))) (sym (next_is false (lt-leb _ _ d))) ∙ left_here
+        pub going_one : {starts' counts' others' : List ℕ} {ps' : List Float} {last' before' : List ℕ} (s : Size) → After (split_one (places_of room) (kept_lists n t) i (here i t) g.model) was (Ok s) t.entries starts' counts' others' ps' last' before' → Going n t was room base (i + 1) s starts' counts' others' ps' last' before'
+        going_one s o = one_of (split_one (places_of room) (kept_lists n t) i (here i t) g.model) s refl o
 
-      one_of : (x : Split) (r : Step) (s : Size) → split_one (places_of room) ks i m g.model ≡ x → After x was r t.entries starts' counts' others' ps' last' before' → r ≡ Grown s
-          → Going (i + 1) s starts' counts' others' ps' last' before'
-      one_of (into b) r s e o q =
-          let w : s ≡ size_of b = cc o.0 in
-          let k = one_mechanism (places_of room) ks i m g.model b e in
-          record {
-            model = b;
-            holds = rw w o.1;
-            front = front_grows ks g.model b g.front k.grows;
-            few = omega (arith, g.few, k.few, few-parts, ap (λ (u : Size). u.mechanisms) w, ap (λ (u : Size). u.mechanisms) g.holds.sized);
-            left = ap (split_all (places_of room) ks (i + 1) (model_of (n - (i + 1)) (tables_from (i + 1) t))) (sym e) ∙ left_one;
-          }
-      one_of (refused x) r s e o q = absurd (let z : ◌≡◌ {A = ℕ} 0 1 = cc in omega arith)
+        stop_of : (starts' counts' others' : List ℕ) (ps' : List Float) (last' before' : List ℕ) (x : Split) (z : Refusal) → split_one (places_of room) (kept_lists n t) i (here i t) g.model ≡ x → After x was (Err z) t.entries starts' counts' others' ps' last' before' → decompose (places_of room) (model_of n t) ≡ refused z
+        stop_of starts' counts' others' ps' last' before' (into b) z e o = absurd (cc o.0)
+        stop_of starts' counts' others' ps' last' before' (refused x) z e o =
+            let w : x ≡ z = cc in
+            sym left_one ∙ ap (split_all (places_of room) (kept_lists n t) (i + 1) (model_of (n - (i + 1)) (tables_from (i + 1) t))) e ∙ stays (places_of room) (kept_lists n t) (i + 1) (model_of (n - (i + 1)) (tables_from (i + 1) t)) x ∙ ap refused w
 
-      pub going_one : (r : Step) (s : Size) → After (split_one (places_of room) ks i m g.model) was r t.entries starts' counts' others' ps' last' before' → r ≡ Grown s → Going (i + 1) s starts' counts' others' ps' last' before'
-      going_one r s o q = one_of (split_one (places_of room) ks i m g.model) r s refl o q
+        pub going_stop : (starts' counts' others' : List ℕ) (ps' : List Float) (last' before' : List ℕ) (z : Refusal) (r : Result Size Refusal) → After (split_one (places_of room) (kept_lists n t) i (here i t) g.model) was (Err z) t.entries starts' counts' others' ps' last' before'
+            → r ≡ Err z → After (decompose (places_of room) (model_of n t)) was r t.entries starts' counts' others' ps' last' before'
+        going_stop starts' counts' others' ps' last' before' z r o q = rw (stop_of starts' counts' others' ps' last' before' (split_one (places_of room) (kept_lists n t) i (here i t) g.model) z refl o) q
 
-      stop_of : (x : Split) (r : Step) (z : Refusal) → split_one (places_of room) ks i m g.model ≡ x → After x was r t.entries starts' counts' others' ps' last' before' → r ≡ Refused z
-          → split_all (places_of room) ks 0 (model_of n t) (into (kept_of (model_of n t))) ≡ refused z
-      stop_of (into b) r z e o q = absurd (let y : ◌≡◌ {A = ℕ} 0 1 = cc o.0 in omega arith)
-      stop_of (refused x) r z e o q =
-          let w : x ≡ z = cc in
-          sym left_one ∙ ap (split_all (places_of room) ks (i + 1) (model_of (n - (i + 1)) (tables_from (i + 1) t))) e ∙ stays (places_of room) ks (i + 1) (model_of (n - (i + 1)) (tables_from (i + 1) t)) x ∙ ap refused w
-
-      pub going_stop : (r : Step) (z : Refusal) → After (split_one (places_of room) ks i m g.model) was r t.entries starts' counts' others' ps' last' before' → r ≡ Refused z
-          → After (split_all (places_of room) ks 0 (model_of n t) (into (kept_of (model_of n t)))) was r t.entries starts' counts' others' ps' last' before'
-      going_stop r z o q =
-          subst (λ (x : Split). After x was r t.entries starts' counts' others' ps' last' before') (sym (stop_of (split_one (places_of room) ks i m g.model) r z refl o q)) q
-
-  pub going_end : (i : ℕ) (size : Size) (starts counts others : List ℕ) (ps : List Float) (last before : List ℕ) → Going i size starts counts others ps last before → n ≤ i
-      → After (split_all (places_of room) ks 0 (model_of n t) (into (kept_of (model_of n t)))) was (Grown size) t.entries starts counts others ps last before
-  unfolding split_all model_of
-  going_end i size starts counts others ps last before g h =
-      let z : n - i ≡ 0 = omega arith in
-      let q : into g.model ≡ split_all (places_of room) ks 0 (model_of n t) (into (kept_of (model_of n t))) =
-      ap (λ (k : ℕ). split_all (places_of room) ks i (model_of k (tables_from i t)) (into g.model)) (sym z) ∙ g.left in
-      subst (λ (x : Split). After x was (Grown size) t.entries starts counts others ps last before) q (ap Grown g.holds.sized, rw (← g.holds.sized) g.holds)
+    pub going_end : n ≤ i → After (decompose (places_of room) (model_of n t)) was (Ok size) t.entries starts counts others ps last before
+    unfolding split_all model_of
+    going_end h =
+        let z : n - i ≡ 0 = omega arith in
+        let q : into g.model ≡ decompose (places_of room) (model_of n t) =
+        ap (λ (k : ℕ). split_all (places_of room) (kept_lists n t) i (model_of k (tables_from i t)) (into g.model)) (sym z) ∙ g.left in
+        subst (λ (x : Split). After x was (Ok size) t.entries starts counts others ps last before) q (ap Ok g.holds.sized, rw (← g.holds.sized) g.holds)

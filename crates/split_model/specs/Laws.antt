@@ -1,5 +1,5 @@
 -- What holds of a decomposed model; proofs/Grows.antt proves it.
-use Rattle.std.specs.Prelude.{ℕ, ◌≡◌, List, ◌++◌, length, replicate}
+use Rattle.std.specs.Prelude.{◌≡◌, List, ◌++◌, length, replicate}
 use Rattle.dem.specs.Model.{Symptom, ErrorMechanism}
 use Rattle.dem.specs.Tables.{tables_of, symptom_entries}
 use Rattle.split_model.specs.Begun.{symptoms_of}

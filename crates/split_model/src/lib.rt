@@ -9,8 +9,8 @@ ghost use Rattle.suggested.specs.Held.{places_of};
 ghost use Rattle.splits.specs.Ready.{After};
 ghost use Rattle.split_model.specs.Begun.{columns_of, Begun, Copyable, CopiedKept};
 
+use codes::Refusal;
 use dem::Place;
-use splits::Step;
 use suggested::Size;
 
 // The mechanisms, components and entries of a model.
@@ -43,20 +43,20 @@ pub fn copy_kept(
     requires { Copyable mechanisms (tables probability.now detector_counts.now observable_counts.now component_counts.now component_detectors.now component_observables.now entries.now) (tables out_probability.old out_detector_counts.old out_observable_counts.old out_component_counts.old out_component_detectors.old out_component_observables.old out_entries.old) starts.old }
     ensures { CopiedKept mechanisms (tables probability.now detector_counts.now observable_counts.now component_counts.now component_detectors.now component_observables.now entries.now) (tables out_probability.old out_detector_counts.old out_observable_counts.old out_component_counts.old out_component_detectors.old out_component_observables.old out_entries.old) starts.old result (tables out_probability.new out_detector_counts.new out_observable_counts.new out_component_counts.new out_component_detectors.new out_component_observables.new out_entries.new) starts.new }
 {
-    let kept = kept::copy_probabilities(mechanisms, detector_counts, probability, out_probability);
-    kept::copy_counts(
+    let kept = kept::copy_column(mechanisms, detector_counts, probability, out_probability);
+    kept::copy_column(
         mechanisms,
         detector_counts,
         detector_counts,
         out_detector_counts,
     );
-    kept::copy_counts(
+    kept::copy_column(
         mechanisms,
         detector_counts,
         observable_counts,
         out_observable_counts,
     );
-    kept::copy_counts(
+    kept::copy_column(
         mechanisms,
         detector_counts,
         component_counts,
@@ -90,12 +90,13 @@ pub fn copy_kept(
     );
     Counts {
         mechanisms: kept,
-        components: components,
+        components,
         entries: listed,
     }
 }
 
 // A refusal leaves all output tables zero.
+#[tactic(auto, unfolding(dem::specs::Tables::tables_zero))]
 pub fn zero_tables(
     probability: &mut [f64],
     detector_counts: &mut [u8],
@@ -107,13 +108,13 @@ pub fn zero_tables(
 )
     ensures { tables probability.new detector_counts.new observable_counts.new component_counts.new component_detectors.new component_observables.new entries.new ≡ tables_zero (tables probability.old detector_counts.old observable_counts.old component_counts.old component_detectors.old component_observables.old entries.old) }
 {
-    tables::fill_f64(probability, 0.0);
-    tables::fill_u8(detector_counts, 0);
-    tables::fill_u8(observable_counts, 0);
-    tables::fill_u8(component_counts, 0);
-    tables::fill_u8(component_detectors, 0);
-    tables::fill_u8(component_observables, 0);
-    tables::fill_u32(entries, 0);
+    probability.fill(0.0);
+    detector_counts.fill(0);
+    observable_counts.fill(0);
+    component_counts.fill(0);
+    component_detectors.fill(0);
+    component_observables.fill(0);
+    entries.fill(0);
 }
 
 // Each larger mechanism, in order. Long for its parameters, one a line.
@@ -142,7 +143,7 @@ pub fn split_all(
     words0: &mut [u64],
     words1: &mut [u64],
     earlier: &mut [u32],
-) -> Step
+) -> Result<Size, Refusal>
     requires { Begun mechanisms (tables probability.now detector_counts.now observable_counts.now component_counts.now component_detectors.now component_observables.now entries.now) kept size room first_of.now next_of.now starts.old out_detector_counts.old out_observable_counts.old out_probability.old last_of.old before.old numbers.old masks.old words0.old words1.old earlier.old }
     ensures { After (decompose (places_of room) (model_of mechanisms (tables probability.now detector_counts.now observable_counts.now component_counts.now component_detectors.now component_observables.now entries.now))) (columns_of out_probability.old out_detector_counts.old out_observable_counts.old) result entries.now starts.new out_detector_counts.new out_observable_counts.new out_probability.new last_of.new before.new }
 {
@@ -151,9 +152,7 @@ pub fn split_all(
         entry: 0,
     };
     let mut sized = size;
-    let mut next = 0;
-    while next < mechanisms {
-        let i = next;
+    for i in 0..mechanisms {
         let at = place;
         let h = dem::head(
             probability,
@@ -163,9 +162,8 @@ pub fn split_all(
             i,
         );
         place = dem::past(h, at, component_detectors, component_observables);
-        next += 1;
         if 2 < h.detectors {
-            let step = splits::split_one(
+            sized = splits::split_one(
                 i,
                 h,
                 at,
@@ -188,12 +186,8 @@ pub fn split_all(
                 words0,
                 words1,
                 earlier,
-            );
-            let Step::Grown(grown) = step else {
-                return step;
-            };
-            sized = grown;
+            )?;
         }
     }
-    Step::Grown(sized)
+    Ok(sized)
 }

@@ -1,41 +1,40 @@
 -- The two ways of a mechanism of over two detectors.
+use Rattle.std.specs.Prelude.{Option, Result, Ok, Err, Some, None, ⊤}
+use Rattle.std.specs.Option.{ok_or}
+use native.Mathlib.Nat.{add-sub_cancel_left}
+use Rattle.codes.specs.declared.Refusal.{Refusal}
 use Prim.Native.Nat.{ℕ, zero, suc, ◌+◌, ◌-◌, ◌<◌, ◌≤◌}
 use native.Mathlib.Omega.{arith}
-use mathlib.Core.Path.{◌≡◌, refl, sym, ap, ap₂, ◌∙◌, subst}
-use mathlib.Core.List.{List, [], ◌∷◌, ◌++◌, map}
-use mathlib.Core.Bool.{Bool, true, false, cond, ◌&&◌}
-use mathlib.Core.Option.{Option, none, some}
+use mathlib.Core.Path.{◌≡◌, refl, sym, ap, ◌∙◌, subst}
+use mathlib.Core.List.{List, [], ◌∷◌}
+use mathlib.Core.Bool.{Bool, true, false, ◌&&◌}
 use lib.ListN.{length, get_or, take, drop, length-drop}
 use lib.Seq.{drop-drop, ext_get_or}
 use lib.Dec.{leb}
 use lib.Ieee.{Float}
 use borrow.Author.Tests.{leb-true}
-use Rattle.lists.specs.Lists.{any}
 use Rattle.lists.proofs.Truth.{and_left, and_right}
 use Rattle.codes.specs.declared.Refusal.TheVariants.{Limit, NoCover}
 use Rattle.dem.specs.declared.Mechanism.{Mechanism}
 use Rattle.dem.specs.declared.Place.{Place}
-use Rattle.dem.specs.Model.{Symptom, ErrorMechanism, list_fits, symptom_fits, symptoms_fit, lists_fit}
-use Rattle.dem.specs.Tables.{Tables, components_of, component_entries, first_of, first_entries, component_detectors}
-use Rattle.dem.specs.Positions.{mechanism_at, place_past, Within, Inside, symptom_at}
+use Rattle.dem.specs.Model.{Symptom, ErrorMechanism, list_fits, symptom_fits, symptoms_fit}
+use Rattle.dem.specs.Tables.{Tables, component_entries, first_of, first_entries}
+use Rattle.dem.specs.Positions.{mechanism_at, place_past, symptom_at}
 use Rattle.dem.specs.Cover.{first_cover, none_such}
 use Rattle.dem.specs.Decompose.{Places, Split, into, refused, add_at, add_all, add_components, is_suggested, by_cover, split_one}
 use Rattle.dem.proofs.Checks.{lists_parts}
-use Rattle.cover.specs.Kept.{nowhere, lowest, starts_with, detectors_at, kept_in, Detectors, Observables, Chains}
+use Rattle.cover.specs.Kept.{lowest, starts_with, detectors_at, kept_in, Chains}
 use Rattle.cover.specs.Kept as kept
 use Rattle.kept.proofs.Kept.{whole}
 use Rattle.last_equal.specs.declared.Span.{Span}
 use Rattle.suggested.specs.declared.Size.{Size}
-use Rattle.suggested.specs.declared.Added.{Added}
-use Rattle.suggested.specs.declared.Added.TheVariants.{Now, Full}
 use Rattle.probability.specs.Probability.{raised_at, raised_all}
 use Rattle.last_equal.specs.Last.{symptom_in}
-use Rattle.suggested.specs.Held.{places_of, size_of, Holds, Held, Outcome, Roomy, components_from, Suggested}
+use Rattle.suggested.specs.Held.{Holds, Outcome, components_from, Suggested}
 use Rattle.last_equal.proofs.Chain.{fewer}
 use Rattle.suggested.proofs.Models.{raised_length}
 use Rattle.suggested.proofs.Adding.{holds_raised}
-use Rattle.splits.specs.declared.Step.TheVariants.{Grown, Refused}
-use Rattle.splits.specs.Ready.{counts_suggest, Coverable, Kept, Covered, Large, Ready, Front, Splitting, After}
+use Rattle.splits.specs.Ready.{counts_suggest, Coverable, Kept, Covered, Large, Ready, Front, After}
 use Rattle.splits.proofs.Suggests.{suggests, all_one_or_two}
 use Rattle.splits.proofs.Covers.{members_below, kept_length, kept_at}
 
@@ -56,8 +55,8 @@ chains_cong a b n first next e c = record {
 
 -- ---- the model so far, as a cover sees it
 
-module _ (ms : List ErrorMechanism) (was : Tables) (ks : List Symptom) (n : ℕ) (size : Size) (es first next starts counts others : List ℕ) (ps : List Float)
-    (last before numbers masks words0 words1 earlier : List ℕ)
+module _ {ms : List ErrorMechanism} {was : Tables} {ks : List Symptom} {n : ℕ} {size : Size} {es first next starts counts others : List ℕ} {ps : List Float}
+    {last before numbers masks words0 words1 earlier : List ℕ}
     (h : Holds ms was size es starts counts others ps last before) (r : Ready ks n first next numbers masks words0 words1 earlier) (f : Front ks ms) where
   kept_few : n ≤ length ms
   kept_few = omega (arith, f.few, r.counted)
@@ -103,7 +102,7 @@ holds_all was size es starts counts others last before p (c ∷ cs) ms ps h b =
 
 -- ---- the mechanism
 
-module _ (D : ℕ) (h : Mechanism) (p : Place) (cds cos es : List ℕ) (l : Large D h p cds cos es) where
+module _ {D : ℕ} {h : Mechanism} {p : Place} {cds cos es : List ℕ} (l : Large D h p cds cos es) where
   abbrev pub span : Span
   span = record { at = p.entry; detectors = h.detectors; observables = h.observables }
 
@@ -154,10 +153,12 @@ module _ (D : ℕ) (h : Mechanism) (p : Place) (cds cos es : List ℕ) (l : Larg
     observables = and_right (list_fits D (symptom_in es span).detectors) (list_fits 128 (symptom_in es span).observables) own_lists;
   }
 
-  pub counts_are : is_suggested theirs ≡ counts_suggest (take h.components (drop p.component cds))
+  -- the components are suggested where their counts say so
+  pub counts_are : is_suggested theirs ≡ counts_suggest (take ((p.component + h.components) - p.component) (drop p.component cds))
   counts_are =
       let i = l.inside in
-      suggests theirs ∙ ap counts_suggest (whole h.components (drop p.component cds) (drop p.component cos) (drop past_own es) (omega (arith, length-drop p.component cds)) (omega (arith, length-drop p.component cos)) (omega (arith, i.entries, length-drop past_own es))).detectors
+      rw (add-sub_cancel_left p.component h.components)
+      (suggests theirs ∙ ap counts_suggest (whole h.components (drop p.component cds) (drop p.component cos) (drop past_own es) (omega (arith, length-drop p.component cds)) (omega (arith, length-drop p.component cos)) (omega (arith, i.entries, length-drop past_own es))).detectors)
 
   pub suggested : is_suggested theirs ≡ true → Suggested h.components p.component past_own D cds cos es
   suggested e = record {
@@ -167,47 +168,43 @@ module _ (D : ℕ) (h : Mechanism) (p : Place) (cds cos es : List ℕ) (l : Larg
     one_or_two_is = all_one_or_two theirs e;
   }
 
-  module _ (room : Places) (ks : List Symptom) (i : ℕ) (ms : List ErrorMechanism) where
-    pub by_components : is_suggested theirs ≡ true → split_one room ks i (mechanism_at h p cds cos es) ms ≡ add_components room h.probability theirs (into ms)
+  -- ---- what the ways come to
+
+  module _ (room : Places) (ks : List Symptom) (i : ℕ) (ms : List ErrorMechanism) (was : Tables) where
+    pub by_components : (starts counts others : List ℕ) (ps : List Float) (last before : List ℕ) (r : Option Size) (a : Result Size Refusal)
+        → is_suggested theirs ≡ true → Outcome (add_components room h.probability theirs (into ms)) was r es starts counts others ps last before → a ≡ ok_or r Limit
+        → After (split_one room ks i (mechanism_at h p cds cos es) ms) was a es starts counts others ps last before
     unfolding split_one
-    by_components e = rw (own_components, e, own_probability)
+    by_components starts counts others ps last before r a e o q =
+        rw (own_components, e, own_probability) (limited (add_components room h.probability theirs (into ms)) o)
+      where
+        limited : (y : Split) → Outcome y was r es starts counts others ps last before → After y was a es starts counts others ps last before
+        limited (into ms) o = (q ∙ ap (λ (x : Option Size). ok_or x Limit) o.0, o.1)
+        limited (refused z) o = q ∙ ap (λ (x : Option Size). ok_or x Limit) o.1 ∙ ap Err (sym o.0)
 
-    pub by_cover_lem : is_suggested theirs ≡ false → split_one room ks i (mechanism_at h p cds cos es) ms ≡ by_cover h.probability i ms (first_cover ks (symptom_in es span))
-    unfolding split_one
-    by_cover_lem e = rw (own_components, e, own_probability, own_symptom)
+    module _ {n : ℕ} {size : Size} {first next starts counts others : List ℕ} {ps : List Float} {last before numbers masks words0 words1 earlier : List ℕ}
+        (w : Holds ms was size es starts counts others ps last before) (y : Ready ks n first next numbers masks words0 words1 earlier) (f : Front ks ms) (ps' : List Float) (r : Option ⊤)
+        (e : is_suggested theirs ≡ false) (c : Covered (first_cover (kept_in starts counts others es n) (symptom_in es span)) h.probability ps r ps') where
+      goes : (a : Result Size Refusal) → After (by_cover h.probability i ms (first_cover ks (symptom_in es span))) was a es starts counts others ps' last before
+          → After (split_one room ks i (mechanism_at h p cds cos es) ms) was a es starts counts others ps' last before
+      unfolding split_one
+      goes a o = rw (own_components, e, own_probability, own_symptom) o
 
--- ---- what the ways come to
+      covered : Covered (first_cover ks (symptom_in es span)) h.probability ps r ps'
+      covered = subst (λ (l : List Symptom). Covered (first_cover l (symptom_in es span)) h.probability ps r ps') (kept_same w y f) c
 
-module _ (was : Tables) (es starts counts others : List ℕ) (ps : List Float) (last before : List ℕ) where
-  pub after_now : (x y : Split) (r : Added) (g : Size) → x ≡ y → Outcome y was r es starts counts others ps last before → r ≡ Now g → After x was (Grown g) es starts counts others ps last before
-  after_now x y r g e o q = subst (λ (w : Split). After w was (Grown g) es starts counts others ps last before) (sym e) (now y o)
-    where
-      now : (y : Split) → Outcome y was r es starts counts others ps last before → After y was (Grown g) es starts counts others ps last before
-      now (into ms) o = let w : g ≡ size_of ms = cc o.0 in (ap Grown w, o.1)
-      now (refused z) o = absurd (let w : ◌≡◌ {A = ℕ} 0 1 = cc o.1 in omega arith)
+      pub by_no_cover : (x : Refusal) (a : Result Size Refusal) → Err x ≡ ok_or r (NoCover i) → a ≡ Err x → After (split_one room ks i (mechanism_at h p cds cos es) ms) was a es starts counts others ps' last before
+      by_no_cover x a q z = goes a (none (first_cover ks (symptom_in es span)) covered)
+        where
+          none : (x : Option (List ℕ)) → Covered x h.probability ps r ps' → After (by_cover h.probability i ms x) was a es starts counts others ps' last before
+          none None c = let g : x ≡ NoCover i = cc (q ∙ ap (λ (v : Option ⊤). ok_or v (NoCover i)) c.0) in z ∙ ap Err g
+          none (Some cs) c = absurd (cc (q ∙ ap (λ (v : Option ⊤). ok_or v (NoCover i)) c.0))
 
-  pub after_full : (x y : Split) (r : Added) → x ≡ y → Outcome y was r es starts counts others ps last before → r ≡ Full → After x was (Refused Limit) es starts counts others ps last before
-  after_full x y r e o q = subst (λ (w : Split). After w was (Refused Limit) es starts counts others ps last before) (sym e) (full y o)
-    where
-      full : (y : Split) → Outcome y was r es starts counts others ps last before → After y was (Refused Limit) es starts counts others ps last before
-      full (into ms) o = absurd (let w : ◌≡◌ {A = ℕ} 0 1 = cc o.0 in omega arith)
-      full (refused z) o = ap Refused (sym o.0)
-
--- the cover's answer
-module _ (ms : List ErrorMechanism) (was : Tables) (size : Size) (es starts counts others : List ℕ) (ps : List Float) (last before : List ℕ)
-    (h : Holds ms was size es starts counts others ps last before) (ks : List Symptom) (f : Front ks ms) (p : Float) (i : ℕ) (s : Symptom) (r : Bool) (ps' : List Float) where
-  none_of : (x : Option (List ℕ)) → Covered x p ps r ps' → r ≡ false → After (by_cover p i ms x) was (Refused (NoCover i)) es starts counts others ps' last before
-  none_of none c e = refl
-  none_of (some cs) c e = absurd (let w : ◌≡◌ {A = ℕ} 0 1 = cc c.0 in omega arith)
-
-  pub after_none : (x : Split) → x ≡ by_cover p i ms (first_cover ks s) → Covered (first_cover ks s) p ps r ps' → r ≡ false → After x was (Refused (NoCover i)) es starts counts others ps' last before
-  after_none x e c q = subst (λ (w : Split). After w was (Refused (NoCover i)) es starts counts others ps' last before) (sym e) (none_of (first_cover ks s) c q)
-
-  some_of : (x : Option (List ℕ)) → first_cover ks s ≡ x → Covered x p ps r ps' → r ≡ true → After (by_cover p i ms x) was (Grown size) es starts counts others ps' last before
-  some_of none g c e = absurd (let w : ◌≡◌ {A = ℕ} 0 1 = cc c.0 in omega arith)
-  some_of (some cs) g c e =
-      let k = holds_all was size es starts counts others last before p cs ms ps h (λ j l. let b = members_below ks s cs g j l in omega (arith, f.few)) in
-      (ap Grown k.sized, rw (← k.sized, c.1) k)
-
-  pub after_cover : (x : Split) → x ≡ by_cover p i ms (first_cover ks s) → Covered (first_cover ks s) p ps r ps' → r ≡ true → After x was (Grown size) es starts counts others ps' last before
-  after_cover x e c q = subst (λ (w : Split). After w was (Grown size) es starts counts others ps' last before) (sym e) (some_of (first_cover ks s) refl c q)
+      pub by_first_cover : (u : ⊤) (x : Refusal) → Ok u ≡ ok_or r x → After (split_one room ks i (mechanism_at h p cds cos es) ms) was (Ok size) es starts counts others ps' last before
+      by_first_cover u x q = goes (Ok size) (some (first_cover ks (symptom_in es span)) refl covered)
+        where
+          some : (x : Option (List ℕ)) → first_cover ks (symptom_in es span) ≡ x → Covered x h.probability ps r ps' → After (by_cover h.probability i ms x) was (Ok size) es starts counts others ps' last before
+          some None g c = absurd (cc (q ∙ ap (λ (v : Option ⊤). ok_or v x) c.0))
+          some (Some cs) g c =
+              let k = holds_all was size es starts counts others last before h.probability cs ms ps w (λ j l. let b = members_below ks (symptom_in es span) cs g j l in omega (arith, f.few)) in
+              (ap Ok k.sized, rw (← k.sized, c.1) k)

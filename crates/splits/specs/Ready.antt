@@ -1,6 +1,6 @@
 -- A mechanism of over two detectors, the kept mechanisms that a cover may choose, and the model so far.
-use Rattle.std.specs.Prelude.{ℕ, ◌+◌, ◌<◌, ◌≤◌, ◌≡◌, List, [], ◌∷◌, map, Bool, true, false, not, ◌&&◌, length, get_or, take, leb, Float}
-use Rattle.std.proofs.Math.Option.{Option, none, some}
+use Rattle.std.specs.Prelude.{Option, None, Some, ⊤, Result, Ok, Err, ℕ, ◌+◌, ◌<◌, ◌≤◌, ◌≡◌, List, [], ◌∷◌, Bool, true, false, not, ◌&&◌, length, get_or, leb, Float}
+use Rattle.codes.specs.declared.Refusal.{Refusal}
 use Rattle.lists.specs.Lists.{any}
 use Rattle.dem.specs.declared.Mechanism.{Mechanism}
 use Rattle.dem.specs.declared.Place.{Place}
@@ -15,8 +15,6 @@ use Rattle.last_equal.specs.declared.Span.{Span}
 use Rattle.probability.specs.Probability.{raised_all}
 use Rattle.last_equal.specs.Last.{symptom_in}
 use Rattle.suggested.specs.Held.{size_of, Holds, Roomy}
-use Rattle.splits.specs.declared.Step.{Step}
-use Rattle.splits.specs.declared.Step.TheVariants.{Grown, Refused}
 
 -- "Components present, each of one or two detectors", by the counts of their detectors
 unfoldable pub counts_suggest : List ℕ → Bool
@@ -46,9 +44,9 @@ pub record Kept (n : ℕ) (starts counts others es first next numbers masks word
   pub probable : n ≤ length ps
 
 -- p is added to each member of the cover, or nothing is touched
-abbrev pub Covered : Option (List ℕ) → Float → List Float → Bool → List Float → Type 0
-Covered none p ps r after = (r ≡ false) × (after ≡ ps)
-Covered (some cs) p ps r after = (r ≡ true) × (after ≡ raised_all p cs ps)
+abbrev pub Covered : Option (List ℕ) → Float → List Float → Option ⊤ → List Float → Type 0
+Covered None p ps r after = (r ≡ None) × (after ≡ ps)
+Covered (Some cs) p ps r after = (r ≡ Some tt) × (after ≡ raised_all p cs ps)
 
 -- ---- a mechanism
 
@@ -87,6 +85,6 @@ pub record Splitting (n : ℕ) (size room : Size) (es first next starts counts o
   pub roomy : Roomy 16 size room starts counts others ps before
 
 -- what splitting comes to: the model and its tables, or a refusal
-abbrev pub After : Split → Tables → Step → List ℕ → List ℕ → List ℕ → List ℕ → List Float → List ℕ → List ℕ → Type 0
-After (into ms) was r es starts counts others ps last before = (r ≡ Grown (size_of ms)) × Holds ms was (size_of ms) es starts counts others ps last before
-After (refused x) was r es starts counts others ps last before = r ≡ Refused x
+abbrev pub After : Split → Tables → Result Size Refusal → List ℕ → List ℕ → List ℕ → List ℕ → List Float → List ℕ → List ℕ → Type 0
+After (into ms) was r es starts counts others ps last before = (r ≡ Ok (size_of ms)) × Holds ms was (size_of ms) es starts counts others ps last before
+After (refused x) was r es starts counts others ps last before = r ≡ Err x

@@ -13,37 +13,15 @@ ghost use Rattle.suggested.specs.Held.{places_of, Holds};
 ghost use Rattle.splits.specs.Ready.{counts_suggest, Coverable, Kept, Covered, Large, Ready, Front, Splitting, After};
 
 use codes::Refusal;
-use cover::Cover;
 use dem::{Mechanism, Place};
 use last_equal::Span;
-use suggested::{Added, Size};
-
-// What splitting a mechanism comes to.
-#[derive(Clone, Copy)]
-pub enum Step {
-    Grown(Size),
-    Refused(Refusal),
-}
+use suggested::Size;
 
 // Whether there are components, each of one or two detectors.
 fn is_suggested(counts: &[u8]) -> bool
     ensures { result ≡ counts_suggest counts.now }
 {
-    if counts.len() == 0 {
-        return false;
-    }
-    let mut i = 0;
-    while i < counts.len() {
-        let d = counts[i];
-        i += 1;
-        if d == 0 {
-            return false;
-        }
-        if 2 < d {
-            return false;
-        }
-    }
-    true
+    !counts.is_empty() && counts.iter().all(|d| 1 <= *d && *d <= 2)
 }
 
 // p is added to each member of the first cover of s by the kept mechanisms, where there is one. Long for its parameters, one a line.
@@ -63,7 +41,7 @@ fn add_cover(
     words1: &mut [u64],
     earlier: &mut [u32],
     probability: &mut [f64],
-) -> bool
+) -> Option<()>
     requires { Coverable (length first_of.now) s entries.now × Kept kept starts.now detector_counts.now observable_counts.now entries.now first_of.now next_of.now numbers.old masks.old words0.old words1.old earlier.old probability.old }
     ensures { Covered (first_cover (kept_in starts.now detector_counts.now observable_counts.now entries.now kept) (symptom_in entries.now s)) p probability.old result probability.new }
 {
@@ -71,7 +49,7 @@ fn add_cover(
     let middle = start + s.detectors as usize;
     let end = middle + s.observables as usize;
     let mut chosen = [0u32; 16];
-    let found = cover::partition_cover(
+    let n = cover::partition_cover(
         starts,
         detector_counts,
         observable_counts,
@@ -87,12 +65,9 @@ fn add_cover(
         words1,
         earlier,
         &mut chosen,
-    );
-    let Cover::Members(n) = found else {
-        return false;
-    };
+    )?;
     probability::raise_all(&chosen[0..n], p, probability);
-    true
+    Some(())
 }
 
 // Mechanism i goes one of the two ways. Long for its parameters, one a line.
@@ -119,7 +94,7 @@ pub fn split_one(
     words0: &mut [u64],
     words1: &mut [u64],
     earlier: &mut [u32],
-) -> Step
+) -> Result<Size, Refusal>
     requires { Large (length last_of.old) head place component_detectors.now component_observables.now entries.now × Splitting kept size room entries.now first_of.now next_of.now starts.old detector_counts.old observable_counts.old probability.old last_of.old before.old numbers.old masks.old words0.old words1.old earlier.old }
     ensures { (ms : List ErrorMechanism) (was : Tables) (ks : List Symptom) → Holds ms was size entries.now starts.old detector_counts.old observable_counts.old probability.old last_of.old before.old → Ready ks kept first_of.now next_of.now numbers.old masks.old words0.old words1.old earlier.old → Front ks ms → After (split_one (places_of room) ks i (mechanism_at head place component_detectors.now component_observables.now entries.now) ms) was result entries.now starts.new detector_counts.new observable_counts.new probability.new last_of.new before.new }
 {
@@ -136,7 +111,7 @@ pub fn split_one(
             component: from,
             entry: s.at + (s.detectors as usize + s.observables as usize),
         };
-        let added = suggested::add_components(
+        return suggested::add_components(
             head.components as usize,
             first,
             p,
@@ -151,13 +126,10 @@ pub fn split_one(
             probability,
             last_of,
             before,
-        );
-        let Added::Now(grown) = added else {
-            return Step::Refused(Refusal::Limit);
-        };
-        return Step::Grown(grown);
+        )
+        .ok_or(Refusal::Limit);
     }
-    if !add_cover(
+    add_cover(
         s,
         p,
         kept,
@@ -173,8 +145,7 @@ pub fn split_one(
         words1,
         earlier,
         probability,
-    ) {
-        return Step::Refused(Refusal::NoCover { mechanism: i });
-    }
-    Step::Grown(size)
+    )
+    .ok_or(Refusal::NoCover { mechanism: i })?;
+    Ok(size)
 }

@@ -1,12 +1,10 @@
 -- From turn to turn.
 use Prim.Native.Nat.{ℕ, ◌+◌, ◌-◌, ◌≤◌}
 use native.Mathlib.Omega.{arith}
-use native.Mathlib.Nat.{sub-zero}
-use mathlib.Core.Path.{◌≡◌, refl, sym, ap, ◌∙◌, subst}
+use mathlib.Core.Path.{◌≡◌, refl, ap, ◌∙◌}
 use mathlib.Core.Bool.{true}
 use mathlib.Core.List.{List}
 use lib.ListN.{length, take, drop, length-append}
-use borrow.Rule.Slice.PartMut.{mid_of}
 use Rattle.edges.specs.Tables.{Slices}
 use Rattle.frames.specs.Input.{lines_of}
 use Rattle.frames.specs.LineLaws.{unended}
@@ -15,8 +13,8 @@ use Rattle.session.specs.declared.Numbers.{Numbers}
 use Rattle.session.specs.Output.{begin, answers}
 use Rattle.session.specs.Kept.{Kept}
 use Rattle.stream.specs.declared.Place.{Place}
-use Rattle.stream.specs.declared.Fed.TheVariants as fed
-use Rattle.stream.specs.Fed.{start_place, Standing, Feeds}
+use Rattle.std.specs.declared.ops.ControlFlow.TheVariants.{Continue, Break}
+use Rattle.stream.specs.Fed.{start_place, Feeds}
 use Rattle.input_end.specs.Finish.{Finishes}
 use Rattle.stream.proofs.Begins.{begin_keeps}
 use Rattle.stream.proofs.Blocks.{appended_long}
@@ -44,25 +42,21 @@ start_ready p e c g block line out l = rw e (record {
 -- ---- a block
 
 module _ (p : Place) (size : ℕ) (c : Columns) (g : Slices) (block line out : List ℕ) (r : Ready p size c g block line out) where
-  pub ready_standing : Standing p c g (mid_of 0 (size - 0) block) line out
-  ready_standing = subst (λ (k : ℕ). Standing p c g (take k block) line out) (sym (sub-zero size)) r.standing
-
   module _ (c' : Columns) (g' : Slices) (line' out' : List ℕ) where
-    pub block_fits : (q : Place) → Feeds p c g (mid_of 0 (size - 0) block) line out (fed.On q) c' g' line' out' → q.filled ≤ length out'
-    block_fits q f = (f ready_standing.session ready_standing.at).at.placed.filled
+    pub block_fits : (q : Place) → Feeds p c g (take size block) line out (Continue q) c' g' line' out' → q.filled ≤ length out'
+    block_fits q f = (f r.standing.session r.standing.at).at.placed.filled
 
-    pub block_over : (k : ℕ) → Feeds p c g (mid_of 0 (size - 0) block) line out (fed.Ended k) c' g' line' out' → k ≤ length out'
+    pub block_over : (k : ℕ) → Feeds p c g (take size block) line out (Break k) c' g' line' out' → k ≤ length out'
     block_over k f =
-        let o = f ready_standing.session ready_standing.at in
+        let o = f r.standing.session r.standing.at in
         omega (arith, o.counted, o.appended.fits, appended_long p.filled o.text out out' o.appended)
 
-    pub block_ready : (q : Place) → Feeds p c g (mid_of 0 (size - 0) block) line out (fed.On q) c' g' line' out' → length out' ≡ length out
+    pub block_ready : (q : Place) → Feeds p c g (take size block) line out (Continue q) c' g' line' out' → length out' ≡ length out
         → Ready (record { numbers = q.numbers; used = q.used; taken = q.taken; filled = 0 }) size c' g' block line' out'
     block_ready q f same =
-        let o = f ready_standing.session ready_standing.at in
+        let o = f r.standing.session r.standing.at in
         let a = o.at in
         let b = a.placed in
-        let n : length (mid_of 0 (size - 0) block) ≡ length (take size block) = ap (λ (k : ℕ). length (take k block)) (sub-zero size) in
         record {
           standing = record {
             session = o.session;
@@ -70,7 +64,7 @@ module _ (p : Place) (size : ℕ) (c : Columns) (g : Slices) (block line out : L
               numbers = a.numbers;
               keeps = a.keeps;
               sizes = a.sizes;
-              placed = record { buffer = b.buffer; used = b.used; unbroken = b.unbroken; taken = omega (arith, b.taken, n); filled = omega arith };
+              placed = record { buffer = b.buffer; used = b.used; unbroken = b.unbroken; taken = b.taken; filled = omega arith };
             };
           };
           within = r.within;

@@ -2,7 +2,7 @@
 // and it is called with no table lent, so that a program asks nothing of it.
 #![tactic(auto)]
 
-ghost use Rattle.std.specs.Prelude.{◌≡◌, [], ◌≤◌, IfOk, length};
+ghost use Rattle.std.specs.Prelude.{[], ◌≤◌, IfOk, length};
 ghost use Rattle.edges.specs.Tables.{slices};
 ghost use Rattle.reader.specs.Columns.{columns_of};
 ghost use Rattle.stream.specs.Long.{Long};
@@ -10,73 +10,38 @@ ghost use Rattle.standard_input.specs.Ready.{GoesOn};
 
 use std::io;
 use std::io::{Read, Write};
-use stream::{Fed, Place};
-
-#[derive(Clone, Copy)]
-enum Got {
-    // a block of so many bytes, and the place in it
-    Block { place: Place, size: usize },
-    // the end of the input
-    End,
-}
-
-// The bytes of a block, and of the output.
-fn bytes() -> [u8; 65536]
-    ensures { 65536 ≡ length result }
-{
-    [0; 65536]
-}
-
-fn entries() -> [u32; 8192]
-    ensures { 8192 ≡ length result }
-{
-    [0; 8192]
-}
+use std::ops::ControlFlow;
+use stream::Place;
 
 // The front of the output, written.
 fn put(to: &mut impl Write, out: &[u8], n: usize) -> io::Result<()>
     requires { n ≤ length out.now }
 {
-    to.write_all(&out[0..n])
+    to.write_all(&out[..n])
 }
 
-// The block, as far as it is not taken yet, or the next one, by one read.
-fn next_block(from: &mut impl Read, p: Place, size: usize, block: &mut [u8]) -> io::Result<Got>
+// The block, as far as it is not taken yet, or the next one, by one read: the place in it, and of how many bytes it is. At the end of the input there is none.
+fn next_block(
+    from: &mut impl Read,
+    p: Place,
+    size: usize,
+    block: &mut [u8],
+) -> io::Result<Option<(Place, usize)>>
     ensures { IfOk result (λ got. GoesOn p size block.old got block.new) }
 {
     if p.taken < size {
-        return Ok(Got::Block {
-            place: p,
-            size: size,
-        });
+        return Ok(Some((p, size)));
     }
     let n = from.read(block)?;
     if n == 0 {
-        return Ok(Got::End);
+        return Ok(None);
     }
-    let numbers = p.numbers;
-    Ok(Got::Block {
-        place: Place {
-            numbers: numbers,
-            used: p.used,
-            taken: 0,
-            filled: 0,
-        },
-        size: n,
-    })
-}
-
-// The place once the output is written.
-fn emptied(p: Place) -> Place
-    ensures { result ≡ record { numbers = p.numbers; used = p.used; taken = p.taken; filled = 0 } }
-{
-    let numbers = p.numbers;
-    Place {
-        numbers: numbers,
-        used: p.used,
-        taken: p.taken,
+    let first = Place {
+        taken: 0,
         filled: 0,
-    }
+        ..p
+    };
+    Ok(Some((first, n)))
 }
 
 // Block after block, each answered and the answers written, then the end of the input. There are more turns than can ever be taken, since nothing says that an input ends. Long for
@@ -101,48 +66,43 @@ fn serve(
     let mut place = stream::start();
     let mut size = 0;
     for _ in 0..u64::MAX {
-        let got = next_block(from, place, size, block)?;
-        match got {
-            Got::End => {
-                let n = input_end::finish(
-                    place.numbers,
-                    place.used,
-                    line,
-                    probability_bits,
-                    counts,
-                    entries,
-                    shot,
-                    edge_u,
-                    edge_v,
-                    edge_weight,
-                    edge_obs,
-                    out,
-                );
-                return put(to, out, n);
-            }
-            Got::Block { place: p, size: n } => {
-                let fed = stream::feed(
-                    &block[0..n],
-                    p,
-                    line,
-                    probability_bits,
-                    counts,
-                    entries,
-                    shot,
-                    edge_u,
-                    edge_v,
-                    edge_weight,
-                    edge_obs,
-                    out,
-                );
-                match fed {
-                    Fed::Ended(filled) => return put(to, out, filled),
-                    Fed::On(q) => {
-                        put(to, out, q.filled)?;
-                        place = emptied(q);
-                        size = n;
-                    }
-                }
+        let Some((p, n)) = next_block(from, place, size, block)? else {
+            let n = input_end::finish(
+                place.numbers,
+                place.used,
+                line,
+                probability_bits,
+                counts,
+                entries,
+                shot,
+                edge_u,
+                edge_v,
+                edge_weight,
+                edge_obs,
+                out,
+            );
+            return put(to, out, n);
+        };
+        let fed = stream::feed(
+            &block[..n],
+            p,
+            line,
+            probability_bits,
+            counts,
+            entries,
+            shot,
+            edge_u,
+            edge_v,
+            edge_weight,
+            edge_obs,
+            out,
+        );
+        match fed {
+            ControlFlow::Break(filled) => return put(to, out, filled),
+            ControlFlow::Continue(q) => {
+                put(to, out, q.filled)?;
+                place = Place { filled: 0, ..q };
+                size = n;
             }
         }
     }
@@ -152,12 +112,12 @@ fn serve(
 // Standard input answered on standard output, to its end, to the first refusal, or until reading or writing fails: then nothing more is written, so that an output with neither
 // 8f nor ff at its end is known to be cut off. Long for its tables, one a line.
 pub fn answer(rt: &(impl Input + Print)) -> io::Result<()> {
-    let mut block = bytes();
-    let mut out = bytes();
+    let mut block = [0u8; 65536];
+    let mut out = [0u8; 65536];
     let mut line = [0u8; 2062];
     let mut probability_bits = [0u64; 1024];
     let mut counts = [[0u8; 5]; 1024];
-    let mut entries = crate::entries();
+    let mut entries = [0u32; 8192];
     let mut shot = [0u64; 6];
     let mut edge_u = [0u32; 1024];
     let mut edge_v = [0u32; 1024];

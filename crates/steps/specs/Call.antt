@@ -1,13 +1,11 @@
 -- What a call reads and leaves: the lent tables as a graph, its check, the shot in a row of words, the list and the rows.
-use Rattle.std.specs.Prelude.{ℕ, ◌*◌, ◌≡◌, List, [], ◌∷◌, ◌++◌, map, Bool, not, ◌&&◌, ◌||◌, length, get_or, take, drop, eqb, ltb, Float}
+use Rattle.std.specs.Prelude.{Ok, ℕ, ◌*◌, ◌≡◌, List, [], ◌∷◌, ◌++◌, map, Bool, not, ◌&&◌, ◌||◌, length, get_or, take, drop, eqb, ltb, Float}
 use Rattle.std.specs.Float.{nan}
 use Rattle.lists.specs.Lists.{below}
 use Rattle.bits.specs.Rows.{words, bits_of, is_clear}
 use Rattle.weight.specs.Weight.{weight_fits}
 use Rattle.codes.specs.declared.Refusal.TheVariants.{Probability, Index}
-use Rattle.codes.specs.declared.Checked.{Checked}
-use Rattle.codes.specs.declared.Checked.TheVariants.{Accepted}
-use Rattle.codes.specs.Order.{refuse_if, and_then}
+use Rattle.codes.specs.Order.{Checked, refuse_if, and_then}
 use Rattle.codes.specs.Limits.{check_counts}
 use Rattle.steps.specs.Graph.{Graph, inner, outer, edges, is_pair}
 use Rattle.steps.specs.Shot.{Decoded, impossible, corrected}
@@ -53,16 +51,16 @@ check_edge g e =
 -- edge by edge
 unfoldable pub check_edges : Graph → List ℕ → Checked
 unfolding check_edge
-check_edges g [] = Accepted
+check_edges g [] = Ok tt
 check_edges g (e ∷ es) = and_then (check_edge g e) (check_edges g es)
 
 -- "A graph within the limits that passes is accepted"; a lent graph has an entry for each edge in every table
 pub record AcceptedGraph (g : Graph) : Type 0 where
-  pub limits : check_counts g.detectors g.observables (length g.edge_u) ≡ Accepted
+  pub limits : check_counts g.detectors g.observables (length g.edge_u) ≡ Ok tt
   pub ends_table : length g.edge_v ≡ length g.edge_u
   pub weight_table : length g.edge_weight ≡ length g.edge_u
   pub obs_table : length g.edge_obs ≡ length g.edge_u
-  pub passes : check_edges g (edges g) ≡ Accepted
+  pub passes : check_edges g (edges g) ≡ Ok tt
 
 -- ---- what is left
 

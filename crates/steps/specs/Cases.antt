@@ -1,9 +1,8 @@
 -- The proved cases of the decoder and the marker, and further ones, in one table that closes by computation.
-use Rattle.std.specs.Prelude.{ℕ, ◌≡◌, refl, List, [], ◌∷◌, Bool, true, false, pos, replicate, length, Float}
+use Rattle.std.specs.Prelude.{Ok, Err, ℕ, ◌≡◌, refl, List, [], ◌∷◌, Bool, true, false, pos, replicate, length, Float}
 use Rattle.std.specs.Float.Ieee as Ieee
 use Rattle.std.specs.Float.{binary64, fin, inf, nan}
 use Rattle.codes.specs.declared.Refusal.TheVariants.{Probability, Index}
-use Rattle.codes.specs.declared.Checked.TheVariants.{Accepted, Refused}
 use Rattle.bits.specs.Rows.{bits_of}
 use Rattle.steps.specs.Graph.{Graph, boundary, edges}
 use Rattle.steps.specs.Growth.{count, least_of, start, after}
@@ -121,20 +120,20 @@ pub record Slices : Type 0 where
   -- the tables that give the example's graph; what lies past the edges is not read
   pub read : graph_of 2 1 2 (0 ∷ 0 ∷ 7 ∷ []) (boundary ∷ 1 ∷ 7 ∷ []) (quarter_weight ∷ quarter_weight ∷ []) (1 ∷ 0 ∷ 7 ∷ []) ≡ both_edges
   pub lit_d1 : lit_of 2 (2 ∷ []) ≡ false ∷ true ∷ []
-  pub passes : check_edges both_edges (edges both_edges) ≡ Accepted
+  pub passes : check_edges both_edges (edges both_edges) ≡ Ok tt
   -- 5: an end that is no detector, a pair that does not ascend, a bit past O
-  pub no_detector : check_edges (lent (2 ∷ []) (boundary ∷ []) (w0 ∷ []) ((0 ∷ []) ∷ [])) (0 ∷ []) ≡ Refused (Index 0)
-  pub no_pair : check_edges (lent (1 ∷ []) (1 ∷ []) (w0 ∷ []) ((0 ∷ []) ∷ [])) (0 ∷ []) ≡ Refused (Index 0)
-  pub past_o : check_edges (lent (0 ∷ []) (boundary ∷ []) (w0 ∷ []) ((2 ∷ []) ∷ [])) (0 ∷ []) ≡ Refused (Index 0)
+  pub no_detector : check_edges (lent (2 ∷ []) (boundary ∷ []) (w0 ∷ []) ((0 ∷ []) ∷ [])) (0 ∷ []) ≡ Err (Index 0)
+  pub no_pair : check_edges (lent (1 ∷ []) (1 ∷ []) (w0 ∷ []) ((0 ∷ []) ∷ [])) (0 ∷ []) ≡ Err (Index 0)
+  pub past_o : check_edges (lent (0 ∷ []) (boundary ∷ []) (w0 ∷ []) ((2 ∷ []) ∷ [])) (0 ∷ []) ≡ Err (Index 0)
   -- 4: a weight that is neither from 0 to 1,024 nor infinity
-  pub weight_nan : check_edges (lent (0 ∷ []) (1 ∷ []) (nan ∷ []) ((1 ∷ []) ∷ [])) (0 ∷ []) ≡ Refused (Probability 0)
-  pub weight_1025 : check_edges (lent (0 ∷ []) (1 ∷ []) (fin false 1025 (pos 0) ∷ []) ((1 ∷ []) ∷ [])) (0 ∷ []) ≡ Refused (Probability 0)
-  pub weight_1024 : check_edges (lent (0 ∷ []) (1 ∷ []) (fin false 1024 (pos 0) ∷ []) ((1 ∷ []) ∷ [])) (0 ∷ []) ≡ Accepted
-  pub weight_inf : check_edges (lent (0 ∷ []) (1 ∷ []) (inf false ∷ []) ((1 ∷ []) ∷ [])) (0 ∷ []) ≡ Accepted
-  pub weight_minus_zero : check_edges (lent (0 ∷ []) (1 ∷ []) (fin true 0 (pos 0) ∷ []) ((1 ∷ []) ∷ [])) (0 ∷ []) ≡ Accepted
+  pub weight_nan : check_edges (lent (0 ∷ []) (1 ∷ []) (nan ∷ []) ((1 ∷ []) ∷ [])) (0 ∷ []) ≡ Err (Probability 0)
+  pub weight_1025 : check_edges (lent (0 ∷ []) (1 ∷ []) (fin false 1025 (pos 0) ∷ []) ((1 ∷ []) ∷ [])) (0 ∷ []) ≡ Err (Probability 0)
+  pub weight_1024 : check_edges (lent (0 ∷ []) (1 ∷ []) (fin false 1024 (pos 0) ∷ []) ((1 ∷ []) ∷ [])) (0 ∷ []) ≡ Ok tt
+  pub weight_inf : check_edges (lent (0 ∷ []) (1 ∷ []) (inf false ∷ []) ((1 ∷ []) ∷ [])) (0 ∷ []) ≡ Ok tt
+  pub weight_minus_zero : check_edges (lent (0 ∷ []) (1 ∷ []) (fin true 0 (pos 0) ∷ []) ((1 ∷ []) ∷ [])) (0 ∷ []) ≡ Ok tt
   -- edge by edge, and of one edge 5 before 4
-  pub by_edge : check_edges (lent (0 ∷ 1 ∷ []) (1 ∷ 1 ∷ []) (nan ∷ w0 ∷ []) ((1 ∷ []) ∷ (1 ∷ []) ∷ [])) (0 ∷ 1 ∷ []) ≡ Refused (Probability 0)
-  pub five_first : check_edges (lent (1 ∷ []) (1 ∷ []) (nan ∷ []) ((1 ∷ []) ∷ [])) (0 ∷ []) ≡ Refused (Index 0)
+  pub by_edge : check_edges (lent (0 ∷ 1 ∷ []) (1 ∷ 1 ∷ []) (nan ∷ w0 ∷ []) ((1 ∷ []) ∷ (1 ∷ []) ∷ [])) (0 ∷ 1 ∷ []) ≡ Err (Probability 0)
+  pub five_first : check_edges (lent (1 ∷ []) (1 ∷ []) (nan ∷ []) ((1 ∷ []) ∷ [])) (0 ∷ []) ≡ Err (Index 0)
   -- the list from the start of its slice, the rest untouched; both untouched by Stuck
   pub list_left_is : list_left (7 ∷ 8 ∷ 9 ∷ []) (decode both_edges (false ∷ true ∷ [])) ≡ 1 ∷ 0 ∷ 9 ∷ []
   pub list_stuck : list_left (7 ∷ 8 ∷ []) (decode pair_only (false ∷ true ∷ [])) ≡ 7 ∷ 8 ∷ []

@@ -1,6 +1,5 @@
 -- Demand 3 as a statement: what is found of a shot decoder and a marker on every accepted graph and every shot of its width.
-use Rattle.std.specs.Prelude.{ℕ, suc, ◌*◌, ◌<◌, ◌≤◌, ◌≡◌, List, [], Bool, true, false, ◌↔◌, ◌⊎◌, length, get_or, take, drop}
-use Rattle.std.proofs.Math.Option.{some}
+use Rattle.std.specs.Prelude.{Some, ℕ, suc, ◌*◌, ◌<◌, ◌≤◌, ◌≡◌, List, [], Bool, true, false, ◌↔◌, ◌⊎◌, length, get_or, take, drop}
 use Rattle.lists.specs.Lists.{odd, member}
 use Rattle.bits.specs.Rows.{words, bit}
 use Rattle.steps.specs.Graph.{Graph, inner, outer, is_pair, ends, flipped}
@@ -78,7 +77,7 @@ NoneActive g lit n = (after g lit n).active ≡ []
 
 -- or the first stuck cluster is that of d
 abbrev pub Halted : Graph → List Bool → ℕ → ℕ → Type 0
-Halted g lit n d = first_stuck g lit (after g lit n) (after g lit n).active ≡ some d
+Halted g lit n d = first_stuck g lit (after g lit n) (after g lit n).active ≡ Some d
 
 -- n is the number of rounds finished: so many are, and no further one is begun
 pub record AllRounds (g : Graph) (lit : List Bool) (n : ℕ) : Type 0 where

@@ -1,9 +1,8 @@
 -- Growth by rounds: docs/RULES.md, "Growth". A cluster is named by its lowest detector.
+use Rattle.std.specs.Prelude.{Option, None, Some, Bool, ◌&&◌, ◌||◌, length, pos, Float}
 use Prim.Native.Nat.{ℕ, zero, suc, ◌+◌, min, max}
 use mathlib.Core.List.{List, [], ◌∷◌, map}
-use Rattle.std.specs.Prelude.{Bool, ◌&&◌, ◌||◌, length, pos, Float}
 use Rattle.std.proofs.Math.Bool.{false, cond, not}
-use Rattle.std.proofs.Math.Option.{Option, none, some}
 use Rattle.std.proofs.Math.ListN.{get_or}
 use Rattle.std.proofs.Math.Dec.{eqb}
 use Rattle.std.specs.Float.Ieee as Ieee
@@ -89,8 +88,8 @@ module _ (g : Graph) (lit : List Bool) where
   -- the first of the clusters with no unsaturated edge
   unfoldable pub first_stuck : State → List ℕ → Option ℕ
   unfolding any below
-  first_stuck s [] = none
-  first_stuck s (a ∷ l) = cond (any (leaves s a) (edges g)) (first_stuck s l) (some a)
+  first_stuck s [] = None
+  first_stuck s (a ∷ l) = cond (any (leaves s a) (edges g)) (first_stuck s l) (Some a)
 
   -- step 2: the increment that e gives
   unfoldable pub step_of : State → ℕ → Float
@@ -165,8 +164,8 @@ pub data Turn : Type 0 where
 
 unfoldable pub turn_of : List ℕ → Option ℕ → Turn
 turn_of [] o = ended
-turn_of (a ∷ l) (some d) = held d
-turn_of (a ∷ l) none = onward
+turn_of (a ∷ l) (Some d) = held d
+turn_of (a ∷ l) None = onward
 
 pub data Growth : Type 0 where
   -- the rounds finished, and the detector named

@@ -1,7 +1,6 @@
 -- The marker: docs/RULES.md, "Marking".
-use Rattle.std.specs.Prelude.{ℕ, List, [], ◌∷◌, Bool, true, false, cond, not, ◌&&◌, length, get_or, ltb}
+use Rattle.std.specs.Prelude.{Option, None, Some, ℕ, List, [], ◌∷◌, Bool, true, false, cond, not, ◌&&◌, length, get_or, ltb}
 use Rattle.std.proofs.Math.Bool.{xor}
-use Rattle.std.proofs.Math.Option.{Option, none, some}
 use Rattle.lists.specs.Lists.{below, odd, member}
 use Rattle.steps.specs.Graph.{Graph, flipped}
 use Rattle.steps.specs.Rows.{row_of}
@@ -22,15 +21,15 @@ fit g (e ∷ es) = ltb e (length g.edge_u) && (not (member e es) && fit g es)
 
 unfoldable pub first_wrong : Graph → List Bool → List ℕ → List ℕ → Option ℕ
 unfolding odd xor
-first_wrong g lit es [] = none
-first_wrong g lit es (d ∷ ds) = cond (xor (get_or lit d false) (flipped g es d)) (some d) (first_wrong g lit es ds)
+first_wrong g lit es [] = None
+first_wrong g lit es (d ∷ ds) = cond (xor (get_or lit d false) (flipped g es d)) (Some d) (first_wrong g lit es ds)
 
 -- by whether the list is fit, and the lowest wrong detector
 unfoldable pub verdict : Graph → List ℕ → Bool → Option ℕ → Marked
 unfolding row_of
 verdict g es false o = unfit
-verdict g es true none = pass (row_of g es)
-verdict g es true (some d) = differs d
+verdict g es true None = pass (row_of g es)
+verdict g es true (Some d) = differs d
 
 unfoldable pub mark : Graph → List Bool → List ℕ → Marked
 unfolding fit first_wrong below verdict

@@ -3,9 +3,9 @@ use Prim.Native.Nat.{ℕ}
 use native.Mathlib.Omega.{arith}
 use mathlib.Core.Path.{◌≡◌, refl, ◌∙◌}
 use mathlib.Core.List.{List}
-use lib.ListN.{length, take, drop, length-take, length-drop}
-use Rattle.columns.specs.Columns.{column}
-use Rattle.columns.proofs.Columns.{column_length}
+use lib.ListN.{length, length-take, length-drop}
+use Rattle.counts.specs.Rows.{column}
+use Rattle.counts.proofs.Rows.{column_length}
 use Rattle.edges.specs.Tables.{Slices, flat}
 use Rattle.frames.specs.Input.{start}
 use Rattle.frames.specs.declared.Stage.TheVariants.{Nothing, AfterRow}
@@ -15,7 +15,7 @@ use Rattle.session.specs.Output.{begin}
 use Rattle.session.specs.Kept.{Sizes, Keeps}
 
 no_row : {A : Type 0} → Nothing ≡ AfterRow → A
-no_row e = let z : ◌≡◌ {A = ℕ} 0 1 = cc in absurd (omega arith)
+no_row e = cc
 
 pub begin_keeps : (c : Columns) (g : Slices) → Keeps begin c g
 unfolding begin start flat

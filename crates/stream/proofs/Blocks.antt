@@ -3,12 +3,13 @@ use Prim.Native.Nat.{ℕ, suc, ◌+◌, ◌-◌, ◌<◌, ◌≤◌}
 use native.Mathlib.Omega.{arith}
 use mathlib.Core.Path.{◌≡◌, refl, sym, ap, ◌∙◌}
 use mathlib.Core.Bool.{Bool, true, false, not, ◌&&◌}
-use mathlib.Core.List.{List, [], ◌∷◌, ◌++◌, append_assoc, append-nil}
-use lib.ListN.{length, get_or, take, drop, set, length-append, length-drop, take-append-drop}
-use lib.Seq.{take-suc, take-suc-set, get_or-drop, drop-drop, take-add, length-take-le, drop-append-le, sets, sets-eq, length-sets}
+use mathlib.Core.List.{List, [], ◌∷◌, ◌++◌, append_assoc}
+use lib.ListN.{length, get_or, take, drop, length-append, length-drop, take-append-drop}
+use lib.Seq.{take-suc, get_or-drop, drop-drop, take-add, length-take-le, drop-append-le, sets, sets-eq, length-sets}
 use lib.Dec.{eqb}
-use borrow.Rule.Slice.PartMut.{mid_of, put_mid, post_of, mid_len}
+use borrow.Rule.Slice.PartMut.{mid_of, put_mid, post_of, mid_len, same_len_mid}
 use borrow.Author.Tests.{ne_eqb}
+use Rattle.std.proofs.lemmas.Slice.{take-put_mid}
 use Rattle.dem.specs.Tables.{written}
 use Rattle.lists.proofs.Slices.{sets_append}
 use Rattle.frames.specs.LineLaws.{unended}
@@ -67,22 +68,19 @@ unended_none l a = ap unended (between_none l a)
 
 -- ---- bytes put behind others
 
-pub put_first : (line block : List ℕ) (used a : ℕ) → take used line ≡ take used line ++ between a a block
-put_first line block used a = sym (append-nil (take used line)) ∙ ap (λ (l : List ℕ). take used line ++ l) (sym (between_none block a))
+-- a part of a block, copied behind the used part of a line
+pub record Copied (line block : List ℕ) (used a e : ℕ) (line' : List ℕ) : Type 0 where
+  pub long : length line' ≡ length line
+  pub put : take (used + (e - a)) line' ≡ take used line ++ between a e block
 
-pub put_last : (line₀ line block : List ℕ) (used a e to n : ℕ) → e ≤ to → to ≤ e → n ≡ used + (e - a) → take n line ≡ take used line₀ ++ between a e block
-    → take (used + (to - a)) line ≡ take used line₀ ++ between a to block
-put_last line₀ line block used a e to n h k q p =
-    let same : e ≡ to = omega arith in
-    rw (← same) (rw q at p)
-
-pub put_next : (line₀ line block : List ℕ) (used a e n : ℕ) → a ≤ e → e < length block → n < length line → take n line ≡ take used line₀ ++ between a e block
-    → take (n + 1) (set line n (get_or block e 0)) ≡ take used line₀ ++ between a (e + 1) block
-put_next line₀ line block used a e n h k room p =
-    let z : n + 1 ≡ suc n = omega arith in
-    let x = get_or block e 0 in
-    ap (λ (j : ℕ). take j (set line n x)) z ∙ take-suc-set line n x room ∙ ap (λ (l : List ℕ). l ++ (x ∷ [])) p
-    ∙ append_assoc (take used line₀) (between a e block) (x ∷ []) ∙ ap (λ (l : List ℕ). take used line₀ ++ l) (sym (between_next block a e h k))
+pub copied : (line block part : List ℕ) (used a e : ℕ) → part ≡ between a e block → a ≤ e → e ≤ length block → used + (e - a) ≤ length line
+    → Copied line block used a e (put_mid used (used + (e - a) - used) line part)
+copied line block part used a e same h k l =
+    let n : length part ≡ e - a = ap length same ∙ between_long block a e h k in
+    record {
+      long = same_len_mid used (used + (e - a) - used) line part (omega (arith, n, mid_len used (used + (e - a)) line l));
+      put = take-put_mid used (used + (e - a) - used) line part (used + (e - a)) (omega (arith, n)) (omega (arith, l)) ∙ ap (λ (x : List ℕ). take used line ++ x) same;
+    }
 
 -- ---- the output
 

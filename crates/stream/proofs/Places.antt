@@ -17,23 +17,22 @@ use Rattle.session.specs.Output.{Session, Answer, goes, ends, answer_line, answe
 use Rattle.session.specs.Kept.{Kept, text_of, KeptOn}
 use Rattle.session.specs.Memory.{Memory, memory, after_line, memory_after}
 use Rattle.stream.specs.declared.Place.{Place}
-use Rattle.stream.specs.declared.Fed.{Fed}
-use Rattle.stream.specs.declared.Fed.TheVariants as fed
+use Rattle.std.specs.declared.ops.ControlFlow.TheVariants.{Continue, Break}
 use Rattle.stream.specs.Text.{Comes, Closes, Leads, Settles}
-use Rattle.stream.specs.Fed.{between, LineEnd, fed_of, Appended, Whole, At, Standing, Onward, Reached, Feeds, Further, Pressed, Presses}
+use Rattle.stream.specs.Fed.{Fed, between, LineEnd, fed_of, Appended, Whole, At, Standing, Onward, Reached, Feeds, Further, Presses}
 use Rattle.stream.proofs.Parts.{on, closed, leads, settles}
 use Rattle.stream.proofs.Blocks.{between_none, between_next, between_rest, between_split, between_long, unended_both, appended_none, appended_both, appended_long}
 use Rattle.stream.proofs.Steps.{part_comes, part_leads, line_comes, line_closes, line_leads, line_settles, long_closes, long_settles}
 
 -- ---- an answer, taken apart
 
-no_on : {A : Type 0} {k : ℕ} {q : Place} → fed.Ended k ≡ fed.On q → A
-no_on e = let z : ◌≡◌ {A = ℕ} 0 1 = cc in absurd (omega arith)
+no_on : {A : Type 0} {k : ℕ} {q : Place} → ◌≡◌ {A = Fed} (Break k) (Continue q) → A
+no_on e = cc
 
 -- how much of the block is taken
 abbrev taken_by : Fed → ℕ
-taken_by (fed.On q) = q.taken
-taken_by (fed.Ended k) = 0
+taken_by (Continue q) = q.taken
+taken_by (Break k) = 0
 
 -- ---- one line
 
@@ -48,7 +47,7 @@ module _ (p : Place) (c : Columns) (g : Slices) (block line out : List ℕ) (end
   unbroken s a = unended_both begun more a.placed.unbroken z.unbroken
 
   -- too long
-  pub feed_long : length line - p.used < end - p.taken → (r : Fed) (out' : List ℕ) → (r ≡ fed.Ended (p.filled + length (refusal_text Frame))) × Appended p.filled (refusal_text Frame) out out'
+  pub feed_long : length line - p.used < end - p.taken → (r : Fed) (out' : List ℕ) → (r ≡ Break (p.filled + length (refusal_text Frame))) × Appended p.filled (refusal_text Frame) out out'
       → Feeds p c g block line out r c g line out' × Further p r
   feed_long over r out' e = (
     λ s a.
@@ -70,7 +69,7 @@ module _ (p : Place) (c : Columns) (g : Slices) (block line out : List ℕ) (end
   module _ (room : end - p.taken ≤ length line - p.used) (line' : List ℕ) (same : length line' ≡ length line) (put : take (p.used + (end - p.taken)) line' ≡ begun ++ more) where
     -- a part of a line, to the end of the block
     pub feed_part : end ≡ length block → p.taken < length block
-        → let q : Place = record { numbers = p.numbers; used = p.used + (end - p.taken); taken = end; filled = p.filled } in Feeds p c g block line out (fed.On q) c g line' out × Further p (fed.On q)
+        → let q : Place = record { numbers = p.numbers; used = p.used + (end - p.taken); taken = end; filled = p.filled } in Feeds p c g block line out (Continue q) c g line' out × Further p (Continue q)
     feed_part e less = (
       λ s a.
           let b = a.placed in
@@ -180,10 +179,7 @@ going_first p c g block line out s a = record {
 }
 
 module _ (from : Place) (c₀ : Columns) (g₀ : Slices) (block line₀ out₀ : List ℕ) (p : Place) (c : Columns) (g : Slices) (line out : List ℕ) (h : Going from c₀ g₀ block line₀ out₀ p c g line out) where
-  pub going_standing : Standing from c₀ g₀ block line₀ out₀ → Standing p c g block line out
-  going_standing st = let o = h st.session st.at in record { session = o.session; at = o.at }
-
-  pub going_on : (q : Place) (c' : Columns) (g' : Slices) (line' out' : List ℕ) → Feeds p c g block line out (fed.On q) c' g' line' out' → Going from c₀ g₀ block line₀ out₀ q c' g' line' out'
+  pub going_on : (q : Place) (c' : Columns) (g' : Slices) (line' out' : List ℕ) → Feeds p c g block line out (Continue q) c' g' line' out' → Going from c₀ g₀ block line₀ out₀ q c' g' line' out'
   going_on q c' g' line' out' f s a =
       let o = h s a in
       let n = f o.session o.at in
@@ -200,7 +196,7 @@ module _ (from : Place) (c₀ : Columns) (g₀ : Slices) (block line₀ out₀ :
         appended = appended_both from.filled p.filled o.text n.text out₀ out out' o.filled o.appended n.appended;
       }
 
-  pub going_over : (k : ℕ) (c' : Columns) (g' : Slices) (line' out' : List ℕ) → Feeds p c g block line out (fed.Ended k) c' g' line' out' → Feeds from c₀ g₀ block line₀ out₀ (fed.Ended k) c' g' line' out'
+  pub going_over : (k : ℕ) (c' : Columns) (g' : Slices) (line' out' : List ℕ) → Feeds p c g block line out (Break k) c' g' line' out' → Feeds from c₀ g₀ block line₀ out₀ (Break k) c' g' line' out'
   going_over k c' g' line' out' f s a =
       let o = h s a in
       let n = f o.session o.at in
@@ -224,21 +220,5 @@ pub moved_on : (from p q : Place) → Moved from p → p.taken < q.taken → Mov
 moved_on from p q (inl e) h = inr (omega (arith, ap (λ (x : Place). x.taken) e, h))
 moved_on from p q (inr g) h = inr (omega (arith, g, h))
 
-module _ (from p : Place) (block : List ℕ) (room : ℕ) where
-  presses : Pressed from p block room → Presses from (fed.On p) block room
-  presses h q e = let same : p ≡ q = cc in subst (λ (x : Place). Pressed from x block room) same h
-
-  -- no room for one more reply
-  moves_by : Moved from p → room < p.filled + 1066 → from.filled + 1066 ≤ room → from.taken < p.taken
-  moves_by (inl e) h k = absurd (omega (arith, ap (λ (x : Place). x.filled) e, h, k))
-  moves_by (inr g) h k = g
-
-  pub pressed_room : Moved from p → room < p.filled + 1066 → Presses from (fed.On p) block room
-  pressed_room m h = presses (record { stops = inr h; moves = λ _ k. moves_by m h k })
-
-  -- the whole block is taken
-  pub pressed_all : p.taken ≤ length block → length block ≤ p.taken → Presses from (fed.On p) block room
-  pressed_all h k = presses (record { stops = inl (omega (arith, h, k)); moves = λ l _. omega (arith, l, k) })
-
-pub pressed_over : (from : Place) (k : ℕ) (block : List ℕ) (room : ℕ) → Presses from (fed.Ended k) block room
+pub pressed_over : (from : Place) (k : ℕ) (block : List ℕ) (room : ℕ) → Presses from (Break k) block room
 pressed_over from k block room q e = no_on e

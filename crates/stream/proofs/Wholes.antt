@@ -1,23 +1,20 @@
 -- A whole line answered behind what the output holds.
 use Prim.Native.Nat.{ℕ, ◌+◌, ◌-◌, ◌≤◌}
 use native.Mathlib.Omega.{arith}
-use native.Mathlib.Nat.{sub-zero}
 use mathlib.Core.Path.{◌≡◌, refl, ap, ◌∙◌, subst}
 use mathlib.Core.List.{List}
 use lib.ListN.{length, take}
-use borrow.Rule.Slice.PartMut.{mid_of, put_mid, mid_len}
+use borrow.Rule.Slice.PartMut.{mid_of, put_mid}
 use Rattle.edges.specs.Tables.{Slices}
 use Rattle.reader.specs.Columns.{Columns}
 use Rattle.session.specs.declared.Numbers.{Numbers}
-use Rattle.session.specs.declared.Told.{Told}
-use Rattle.session.specs.declared.Told.TheVariants as told
+use Rattle.session.specs.declared.On.{On}
 use Rattle.session.specs.Output.{Session, Answer, goes, ends, begin, answer_line}
-use Rattle.session.specs.Kept.{numbers_of, Sizes, Keeps, Kept, told_of, text_of, columns_after, slices_after, KeptOn, Tells, Answers}
+use Rattle.session.specs.Kept.{Told, numbers_of, Sizes, Keeps, Kept, told_of, text_of, Tells, Answers}
 use Rattle.session.proofs.Lines.{Same, sizes_same}
 use Rattle.stream.specs.declared.Place.{Place}
-use Rattle.stream.specs.declared.Fed.{Fed}
-use Rattle.stream.specs.declared.Fed.TheVariants as fed
-use Rattle.stream.specs.Fed.{start_place, fed_of, Appended, Whole}
+use Rattle.std.specs.declared.ops.ControlFlow.TheVariants.{Continue, Break}
+use Rattle.stream.specs.Fed.{Fed, start_place, fed_of, Appended, Whole}
 use Rattle.stream.proofs.Blocks.{appended}
 
 -- ---- lengths
@@ -44,17 +41,14 @@ sizes_all c d g h e f z =
       rows = omega (arith, f.obs, z.rows);
     }
 
-pub room_left : (filled : ℕ) (out : List ℕ) → filled + 1066 ≤ length out → 1066 ≤ length (mid_of filled (length out - filled) out)
-room_left filled out h = omega (arith, mid_len filled (length out) out (omega arith), h)
-
 pub start_is : (n : Numbers) → n ≡ numbers_of begin → ◌≡◌ {A = Place} (record { numbers = n; used = 0; taken = 0; filled = 0 }) start_place
 start_is n e = rw e refl
 
 -- ---- an answer, told from a place
 
 abbrev fed_by : Place → ℕ → Told → Fed
-fed_by p next (told.On n w) = fed.On (record { numbers = n; used = 0; taken = next; filled = p.filled + w })
-fed_by p next (told.Ended w) = fed.Ended (p.filled + w)
+fed_by p next (Continue t) = Continue (record { numbers = t.numbers; used = 0; taken = next; filled = p.filled + t.written })
+fed_by p next (Break w) = Break (p.filled + w)
 
 fed_told : (p : Place) (next : ℕ) (a : Answer) → fed_by p next (told_of a) ≡ fed_of p next a
 fed_told p next (goes t text) = refl
@@ -62,26 +56,22 @@ fed_told p next (ends r) = refl
 
 -- how much is written
 abbrev size : Told → ℕ
-size (told.On n w) = w
-size (told.Ended w) = w
+size (Continue t) = t.written
+size (Break w) = w
 
 size_told : (a : Answer) → size (told_of a) ≡ length (text_of a)
 size_told (goes t text) = refl
 size_told (ends r) = refl
 
 module _ (p : Place) (line : List ℕ) (long next : ℕ) (c : Columns) (g : Slices) (out part : List ℕ) (r : Told) (c' : Columns) (g' : Slices) (h : p.filled ≤ length out)
-    (a : Answers (mid_of 0 (long - 0) line) p.numbers c g r c' g' (mid_of p.filled (length out - p.filled) out) part)
+    (a : Answers (take long line) p.numbers c g r c' g' (mid_of p.filled (length out - p.filled) out) part)
     (same : length part ≡ length (mid_of p.filled (length out - p.filled) out)) where
   abbrev left : List ℕ
   left = put_mid p.filled (length out - p.filled) out part
 
-  -- the line, as it is cut
-  cut : mid_of 0 (long - 0) line ≡ take long line
-  cut = ap (λ (k : ℕ). take k line) (sub-zero long)
-
   module _ (s : Session) (e : p.numbers ≡ numbers_of s) (k : Keeps s c g) (z : Sizes c g) where
     tells : Tells (answer_line s (take long line)) r (mid_of p.filled (length out - p.filled) out) part
-    tells = subst (λ (l : List ℕ). Tells (answer_line s l) r (mid_of p.filled (length out - p.filled) out) part) cut (a.answer s e k z)
+    tells = a.answer s e k z
 
     behind : Appended p.filled (text_of (answer_line s (take long line))) out left
     behind = appended p.filled (text_of (answer_line s (take long line))) out part h tells.text same
@@ -90,10 +80,10 @@ module _ (p : Place) (line : List ℕ) (long next : ℕ) (c : Columns) (g : Slic
   whole_by sizes = record {
     sizes = sizes;
     answer = λ s e k z. ap (fed_by p next) (tells s e k z).told ∙ fed_told p next (answer_line s (take long line));
-    text = λ s e k z. behind s e k z;
-    columns = λ s e k z. subst (λ (l : List ℕ). c' ≡ columns_after s l c) cut (a.columns s e k z);
-    slices = λ s e k z. subst (λ (l : List ℕ). g' ≡ slices_after s l g) cut (a.slices s e k z);
-    keeps = λ s e k z. subst (λ (l : List ℕ). KeptOn (answer_line s l) c' g') cut (a.keeps s e k z);
+    text = behind;
+    columns = a.columns;
+    slices = a.slices;
+    keeps = a.keeps;
   }
 
   fits_by : Kept p.numbers c g → p.filled + size r ≤ length out
@@ -102,16 +92,16 @@ module _ (p : Place) (line : List ℕ) (long next : ℕ) (c : Columns) (g : Slic
       let n : size r ≡ length (text_of (answer_line s (take long line))) = ap size (tells s q.numbers q.keeps q.sizes).told ∙ size_told (answer_line s (take long line)) in
       omega (arith, n, (behind s q.numbers q.keeps q.sizes).fits)
 
-  module _ (n : Numbers) (w : ℕ) (e : r ≡ told.On n w) where
-    pub on_fits : Kept p.numbers c g → p.filled + w ≤ length out
+  module _ (t : On) (e : r ≡ Continue t) where
+    pub on_fits : Kept p.numbers c g → p.filled + t.written ≤ length out
     on_fits q = omega (arith, fits_by q, ap size e)
 
-    pub whole_on : (Sizes c g → Sizes c' g') → Whole p (take long line) next c g out (fed.On (record { numbers = n; used = 0; taken = next; filled = p.filled + w })) c' g' left
+    pub whole_on : (Sizes c g → Sizes c' g') → Whole p (take long line) next c g out (Continue (record { numbers = t.numbers; used = 0; taken = next; filled = p.filled + t.written })) c' g' left
     whole_on sizes = subst (λ (x : Told). Whole p (take long line) next c g out (fed_by p next x) c' g' left) e (whole_by sizes)
 
-  module _ (w : ℕ) (e : r ≡ told.Ended w) where
+  module _ (w : ℕ) (e : r ≡ Break w) where
     pub ended_fits : Kept p.numbers c g → p.filled + w ≤ length out
     ended_fits q = omega (arith, fits_by q, ap size e)
 
-    pub whole_ended : (Sizes c g → Sizes c' g') → Whole p (take long line) next c g out (fed.Ended (p.filled + w)) c' g' left
+    pub whole_ended : (Sizes c g → Sizes c' g') → Whole p (take long line) next c g out (Break (p.filled + w)) c' g' left
     whole_ended sizes = subst (λ (x : Told). Whole p (take long line) next c g out (fed_by p next x) c' g' left) e (whole_by sizes)

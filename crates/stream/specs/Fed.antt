@@ -1,6 +1,8 @@
 -- What the functions promise of a block that is read, and of the output that is filled.
 use Rattle.std.specs.Prelude.{ℕ, ◌+◌, ◌-◌, ◌<◌, ◌≤◌, ◌≡◌, true, List, ◌⊎◌, length, get_or, take, drop}
 use Rattle.std.proofs.lemmas.List.Edits.{sets}
+use Rattle.std.specs.declared.ops.ControlFlow.{ControlFlow}
+use Rattle.std.specs.declared.ops.ControlFlow.TheVariants.{Continue, Break}
 use Rattle.edges.specs.Tables.{Slices}
 use Rattle.frames.specs.LineLaws.{longest, unended}
 use Rattle.reader.specs.Columns.{Columns}
@@ -9,9 +11,11 @@ use Rattle.session.specs.Output.{Session, Answer, goes, ends, begin, answer_line
 use Rattle.session.specs.Kept.{numbers_of, Sizes, Keeps, text_of, columns_after, slices_after, KeptOn}
 use Rattle.session.specs.Memory.{memory}
 use Rattle.stream.specs.declared.Place.{Place}
-use Rattle.stream.specs.declared.Fed.{Fed}
-use Rattle.stream.specs.declared.Fed.TheVariants as fed
 use Rattle.stream.specs.Text.{Comes, Closes, Leads, Settles}
+
+-- the place to which a block is taken, or how many bytes are written
+abbrev pub Fed : Type 0
+Fed = ControlFlow ℕ Place
 
 abbrev pub start_place : Place
 start_place = record { numbers = numbers_of begin; used = 0; taken = 0; filled = 0 }
@@ -31,8 +35,8 @@ pub record LineEnd (block : List ℕ) (from r : ℕ) : Type 0 where
 
 -- an answer of the definition, told from place p, where `next` of the block is taken with the line
 abbrev pub fed_of : Place → ℕ → Answer → Fed
-fed_of p next (goes t text) = fed.On (record { numbers = numbers_of t; used = 0; taken = next; filled = p.filled + length text })
-fed_of p next (ends r) = fed.Ended (p.filled + length (refusal_text r))
+fed_of p next (goes t text) = Continue (record { numbers = numbers_of t; used = 0; taken = next; filled = p.filled + length text })
+fed_of p next (ends r) = Break (p.filled + length (refusal_text r))
 
 -- text was stored behind the first bytes of an output that has room for it; no other byte was written
 pub record Appended (filled : ℕ) (text out out' : List ℕ) : Type 0 where
@@ -89,8 +93,8 @@ pub record Over (s : Session) (p : Place) (filled : ℕ) (block line out : List 
   pub appended : Appended p.filled text out out'
 
 abbrev pub Reached : Session → Place → Fed → List ℕ → List ℕ → List ℕ → Columns → Slices → Columns → Slices → List ℕ → List ℕ → Type 0
-Reached s p (fed.On q) block line out c g c' g' line' out' = Onward s p q block line out c g c' g' line' out'
-Reached s p (fed.Ended filled) block line out c g c' g' line' out' = Over s p filled block line out c g c' g' out'
+Reached s p (Continue q) block line out c g c' g' line' out' = Onward s p q block line out c g c' g' line' out'
+Reached s p (Break filled) block line out c g c' g' line' out' = Over s p filled block line out c g c' g' out'
 
 -- whatever session stands at the place
 abbrev pub Feeds : Place → Columns → Slices → List ℕ → List ℕ → List ℕ → Fed → Columns → Slices → List ℕ → List ℕ → Type 0
@@ -100,7 +104,7 @@ Feeds p c g block line out r c' g' line' out' = (s : Session) → At s p c g blo
 
 -- a line was taken, if only in part
 abbrev pub Further : Place → Fed → Type 0
-Further p r = (q : Place) → r ≡ fed.On q → p.taken < q.taken
+Further p r = (q : Place) → r ≡ Continue q → p.taken < q.taken
 
 -- from place p, in an output of so many bytes
 pub record Pressed (p q : Place) (block : List ℕ) (room : ℕ) : Type 0 where
@@ -111,4 +115,4 @@ pub record Pressed (p q : Place) (block : List ℕ) (room : ℕ) : Type 0 where
 
 -- unless the output is ended
 abbrev pub Presses : Place → Fed → List ℕ → ℕ → Type 0
-Presses p r block room = (q : Place) → r ≡ fed.On q → Pressed p q block room
+Presses p r block room = (q : Place) → r ≡ Continue q → Pressed p q block room

@@ -1,10 +1,11 @@
 -- A component added to the model in its tables.
+use Rattle.std.specs.Prelude.{Option}
+use Rattle.std.specs.Prelude.{Some, None}
 use Prim.Native.Nat.{ℕ, ◌+◌, ◌-◌, ◌<◌, ◌≤◌}
 use native.Mathlib.Omega.{arith}
 use mathlib.Core.Path.{◌≡◌, refl, sym, ap, ap₂, ◌∙◌, subst}
 use mathlib.Core.List.{List, [], ◌∷◌, ◌++◌}
 use mathlib.Core.Bool.{Bool, true, false, ◌&&◌}
-use mathlib.Core.Option.{Option, none, some}
 use lib.Dec.{eqb, leb, ltb}
 use lib.IntN.{pos}
 use lib.Ieee.{Float, fin}
@@ -16,21 +17,19 @@ use Rattle.dem.specs.Model.{Symptom, ErrorMechanism}
 use Rattle.dem.specs.Tables.{Tables, tables_of, written, symptom_entries}
 use Rattle.dem.specs.Decompose.{into, plus, add_at, same_symptom, last_equal, entries_of, has_place, add_component, add_next}
 use Rattle.cover.specs.Kept.{symptom_at}
-use Rattle.cover.specs.Search.{previous}
-use Rattle.cover.proofs.Turn.{previous_le}
+use Rattle.cover.specs.Search.{highest}
+use Rattle.cover.proofs.Turn.{previous_some}
 use Rattle.kept.proofs.Written.{written_set}
 use Rattle.kept.proofs.Kept.{tables_append}
 use Rattle.last_equal.specs.declared.Span.{Span}
 use Rattle.suggested.specs.declared.Size.{Size}
-use Rattle.suggested.specs.declared.Added.{Added}
-use Rattle.suggested.specs.declared.Added.TheVariants.{Now, Full}
 use Rattle.probability.specs.Probability.{raised_at}
-use Rattle.last_equal.specs.Last.{symptom_in, Component, Findable}
+use Rattle.last_equal.specs.Last.{symptom_in, Component}
 use Rattle.suggested.specs.Appended.{Appendable, Appended}
 use Rattle.suggested.specs.Held.{places_of, size_of, place_for, Holds, Outcome, Roomy}
 use Rattle.probability.proofs.Raising.{length_raised}
-use Rattle.last_equal.proofs.Chain.{previous_cong}
-use Rattle.suggested.proofs.Models.{raised_tables, raised_length, raised_entries, raised_symptom, raised_written, lengths, entries_append, last_some, last_none}
+use Rattle.last_equal.proofs.Chain.{highest_cong}
+use Rattle.suggested.proofs.Models.{raised_tables, raised_length, raised_entries, raised_symptom, raised_written, lengths, entries_append, last_is}
 use Rattle.suggested.proofs.Appending.{more_detectors, more_observables, symptom_before, symptom_here}
 
 module _ (ms : List ErrorMechanism) (was : Tables) (size : Size) (es starts counts others : List ℕ) (ps : List Float) (last before : List ℕ)
@@ -53,34 +52,30 @@ module _ (ms : List ErrorMechanism) (was : Tables) (size : Size) (es starts coun
         fits = omega (arith, n, length_raised p k ps, h.fits);
       }
 
-  module _ (s : Span) (room : Size) (p : Float) (x : ℕ) (e : x ≡ previous (λ k. same_symptom (symptom_at starts counts others es k) (symptom_in es s)) size.mechanisms) where
-    z : ErrorMechanism
-    z = record { probability = p; symptom = symptom_in es s; components = [] }
-
+  module _ (s : Span) (room : Size) (p : Float) where
     many : size.mechanisms ≡ length ms
     many = ap (λ (u : Size). u.mechanisms) h.sized
 
-    same : x ≡ previous (λ k. same_symptom (get_or ms k z).symptom (symptom_in es s)) (length ms)
-    same =
-        e ∙ ap (previous (λ k. same_symptom (symptom_at starts counts others es k) (symptom_in es s))) many
-        ∙ previous_cong (λ k. same_symptom (symptom_at starts counts others es k) (symptom_in es s)) (λ k. same_symptom (get_or ms k z).symptom (symptom_in es s)) (length ms)
-        (λ k l. ap (λ (r : Symptom). same_symptom r (symptom_in es s)) (sym (h.symptoms k z l)))
+    equal : last_equal (symptom_in es s) 0 ms ≡ highest (λ k. same_symptom (symptom_at starts counts others es k) (symptom_in es s)) size.mechanisms
+    equal =
+        let z : ErrorMechanism = record { probability = p; symptom = symptom_in es s; components = [] } in
+        last_is (symptom_in es s) z ms
+        ∙ highest_cong (λ k. same_symptom (get_or ms k z).symptom (symptom_in es s)) (λ k. same_symptom (symptom_at starts counts others es k) (symptom_in es s)) (length ms)
+        (λ k l. ap (λ (r : Symptom). same_symptom r (symptom_in es s)) (h.symptoms k z l))
+        ∙ ap (highest (λ k. same_symptom (symptom_at starts counts others es k) (symptom_in es s))) (sym many)
 
-    pub found_below : 0 < x → x - 1 < length ms
-    found_below l = omega (arith, e, many, previous_le (λ k. same_symptom (symptom_at starts counts others es k) (symptom_in es s)) size.mechanisms)
+    module _ (k : ℕ) (e : Some k ≡ highest (λ k. same_symptom (symptom_at starts counts others es k) (symptom_in es s)) size.mechanisms) where
+      pub found_below : k < length ms
+      found_below = omega (arith, (previous_some (λ k. same_symptom (symptom_at starts counts others es k) (symptom_in es s)) size.mechanisms k e).0, many)
 
-    pub add_found : 0 < x → Outcome (add_next (places_of room) p (symptom_in es s) (into ms)) was (Now size) es starts counts others (raised_at p (x - 1) ps) last before
-    unfolding add_component
-    add_found l =
-        let q : last_equal (symptom_in es s) 0 ms ≡ some (x - 1) = last_some (symptom_in es s) z ms x same (x - 1) (omega arith) in
-        let g = holds_raised p (x - 1) (found_below l) in
-        subst (λ (o : Option ℕ). Outcome (add_component (places_of room) p (symptom_in es s) ms o) was (Now size) es starts counts others (raised_at p (x - 1) ps) last before) (sym q)
-        (ap Now g.sized, rw (← g.sized) g)
+      pub add_found : Outcome (add_next (places_of room) p (symptom_in es s) (into ms)) was (Some size) es starts counts others (raised_at p k ps) last before
+      unfolding add_component
+      add_found =
+          let g = holds_raised p k found_below in
+          subst (λ (o : Option ℕ). Outcome (add_component (places_of room) p (symptom_in es s) ms o) was (Some size) es starts counts others (raised_at p k ps) last before) (e ∙ sym equal)
+          (ap Some g.sized, rw (← g.sized) g)
 
-    module _ (None-found : x ≡ 0) (c : Component (length last) s es) where
-      none_equal : last_equal (symptom_in es s) 0 ms ≡ none
-      none_equal = last_none (symptom_in es s) z ms x same None-found
-
+    module _ (e : None ≡ highest (λ k. same_symptom (symptom_at starts counts others es k) (symptom_in es s)) size.mechanisms) (c : Component (length last) s es) where
       more : length (symptom_entries (symptom_in es s ∷ [])) ≡ s.detectors + s.observables
       unfolding symptom_entries
       more =
@@ -101,10 +96,10 @@ module _ (ms : List ErrorMechanism) (was : Tables) (size : Size) (es starts coun
 
       pub add_full : place_for size room (s.detectors + s.observables) ≡ false
           → (starts' counts' others' : List ℕ) (ps' : List Float) (last' before' : List ℕ)
-          → Outcome (add_next (places_of room) p (symptom_in es s) (into ms)) was Full es starts' counts' others' ps' last' before'
+          → Outcome (add_next (places_of room) p (symptom_in es s) (into ms)) was None es starts' counts' others' ps' last' before'
       unfolding add_component
       add_full f starts' counts' others' ps' last' before' =
-          subst (λ (o : Option ℕ). Outcome (add_component (places_of room) p (symptom_in es s) ms o) was Full es starts' counts' others' ps' last' before') (sym none_equal)
+          subst (λ (o : Option ℕ). Outcome (add_component (places_of room) p (symptom_in es s) ms o) was None es starts' counts' others' ps' last' before') (e ∙ sym equal)
           (rw (place_is, f) (refl, refl))
 
       module _ (yes : place_for size room (s.detectors + s.observables) ≡ true) (r : Roomy 1 size room starts counts others ps before) where
@@ -120,13 +115,13 @@ module _ (ms : List ErrorMechanism) (was : Tables) (size : Size) (es starts coun
         below_room : size.mechanisms < room.mechanisms
         below_room = ltb-true _ _ (and_left b1 (b2 && b3) yes)
 
-        pub below_limit : size.mechanisms < 16384
+        below_limit : size.mechanisms < 16384
         below_limit = ltb-true _ _ (and_left b2 b3 (and_right b1 (b2 && b3) yes))
 
-        pub entries_fit : size.entries + (s.detectors + s.observables) ≤ room.entries
+        entries_fit : size.entries + (s.detectors + s.observables) ≤ room.entries
         entries_fit = leb-true _ _ (and_right b2 b3 (and_right b1 (b2 && b3) yes))
 
-        pub appendable : Appendable s size.mechanisms es starts counts others ps last before
+        appendable : Appendable s size.mechanisms es starts counts others ps last before
         appendable = record {
           component = c;
           detectors = rw many h.detectors;
@@ -197,16 +192,8 @@ module _ (ms : List ErrorMechanism) (was : Tables) (size : Size) (es starts coun
                 fits = omega (arith, grown, q.probable, ap length a.probability, length-set ps m (plus (fin false 0 (pos 0)) p));
               }
 
-          pub add_new : Outcome (add_next (places_of room) p (symptom_in es s) (into ms)) was (Now (record { mechanisms = size.mechanisms + 1; entries = size.entries + (s.detectors + s.observables) })) es starts' counts' others' ps' last' before'
+          pub add_new : Outcome (add_next (places_of room) p (symptom_in es s) (into ms)) was (Some (record { mechanisms = size.mechanisms + 1; entries = size.entries + (s.detectors + s.observables) })) es starts' counts' others' ps' last' before'
           unfolding add_component new
           add_new =
-              subst (λ (x : Option ℕ). Outcome (add_component (places_of room) p (symptom_in es s) ms x) was (Now (record { mechanisms = size.mechanisms + 1; entries = size.entries + (s.detectors + s.observables) })) es starts' counts' others' ps' last' before') (sym none_equal)
-              (rw (place_is, yes) (ap₂ {C = Added} (λ (k : ℕ) (j : ℕ). Now (record { mechanisms = k; entries = j })) (sym grown) (sym entries_grown), holds_new))
-
--- what the search for the last equal one is given
-pub findable : (ms : List ErrorMechanism) (was : Tables) (size : Size) (es starts counts others : List ℕ) (ps : List Float) (last before : List ℕ)
-    → Holds ms was size es starts counts others ps last before → (s : Span) → Component (length last) s es → size.mechanisms ≤ length before
-    → Findable s size.mechanisms es starts counts others last before
-findable ms was size es starts counts others ps last before h s c l =
-    let many : size.mechanisms ≡ length ms = ap (λ (u : Size). u.mechanisms) h.sized in
-    record { component = c; detectors = rw many h.detectors; observables = rw many h.observables; chains = rw many h.chains; long = l }
+              subst (λ (x : Option ℕ). Outcome (add_component (places_of room) p (symptom_in es s) ms x) was (Some (record { mechanisms = size.mechanisms + 1; entries = size.entries + (s.detectors + s.observables) })) es starts' counts' others' ps' last' before') (e ∙ sym equal)
+              (rw (place_is, yes) (ap₂ {C = (Option Size)} (λ (k : ℕ) (j : ℕ). Some (record { mechanisms = k; entries = j })) (sym grown) (sym entries_grown), holds_new))

@@ -1,11 +1,11 @@
 -- Models that change: p added to a mechanism, or a mechanism appended.
+use Rattle.std.specs.Prelude.{Option, None, Some}
 use Prim.Native.Nat.{ℕ, zero, suc, ◌+◌, ◌<◌}
 use native.Mathlib.Nat.{add-zero}
 use native.Mathlib.Omega.{arith}
 use mathlib.Core.Path.{◌≡◌, refl, sym, ap, ◌∙◌}
 use mathlib.Core.List.{List, [], ◌∷◌, ◌++◌}
-use mathlib.Core.Bool.{Bool, true, false, cond}
-use mathlib.Core.Option.{Option, none, some}
+use mathlib.Core.Bool.{Bool, true, false}
 use lib.ListN.{length, get_or, drop, length-set, get_or-append}
 use lib.Seq.{set-append_left}
 use lib.Ieee.{Float, nan}
@@ -14,7 +14,7 @@ use Rattle.dem.specs.Model.{Symptom, ErrorMechanism}
 use Rattle.dem.specs.Tables.{tables_of, written, symptom_entries}
 use Rattle.dem.specs.Positions.{tables}
 use Rattle.dem.specs.Decompose.{plus, add_at, same_symptom, or_else, last_equal, entries_of}
-use Rattle.cover.specs.Search.{previous}
+use Rattle.cover.specs.Search.{highest}
 use Rattle.probability.specs.Probability.{raised_at}
 
 -- ---- p added
@@ -74,38 +74,38 @@ entries_append (m ∷ a) b = let h = entries_append a b in omega arith
 
 -- ---- the last equal mechanism
 
-stepped : Bool → ℕ → ℕ
-stepped b zero = cond b 1 0
-stepped b (suc k) = suc (suc k)
+stepped : Bool → Option ℕ → Option ℕ
+stepped true None = Some 0
+stepped false None = None
+stepped b (Some k) = Some (suc k)
 
-previous_front : (q : ℕ → Bool) (n : ℕ) → previous q (suc n) ≡ stepped (q 0) (previous (λ k. q (suc k)) n)
-unfolding previous stepped
-previous_front q zero = refl
-previous_front q (suc n) = case-of (q (suc n)) (λ t. rw t) (λ f. let h = previous_front q n in rw f h)
+highest_front : (q : ℕ → Bool) (n : ℕ) → highest q (suc n) ≡ stepped (q 0) (highest (λ k. q (suc k)) n)
+unfolding highest stepped
+highest_front q zero = case-of (q 0) (λ t. rw t) (λ f. rw f)
+highest_front q (suc n) = case-of (q (suc n)) (λ t. rw t) (λ f. let h = highest_front q n in rw f h)
 
-shifted : ℕ → ℕ → Option ℕ
-shifted at zero = none
-shifted at (suc k) = some (at + k)
+shifted : ℕ → Option ℕ → Option ℕ
+shifted at None = None
+shifted at (Some k) = Some (at + k)
 
-or_else_lem : (b : Bool) (at x : ℕ) → or_else (shifted (suc at) x) b at ≡ shifted at (stepped b x)
+or_else_lem : (b : Bool) (at : ℕ) (x : Option ℕ) → or_else (shifted (suc at) x) b at ≡ shifted at (stepped b x)
 unfolding shifted stepped
-or_else_lem true at zero = ap some (sym (add-zero at))
-or_else_lem false at zero = refl
-or_else_lem b at (suc k) = ap some (omega arith)
+or_else_lem true at None = ap Some (sym (add-zero at))
+or_else_lem false at None = refl
+or_else_lem b at (Some k) = ap Some (omega arith)
 
-last_from : (s : Symptom) (z : ErrorMechanism) (ms : List ErrorMechanism) (at : ℕ) → last_equal s at ms ≡ shifted at (previous (λ k. same_symptom (get_or ms k z).symptom s) (length ms))
-unfolding last_equal previous shifted
+last_from : (s : Symptom) (z : ErrorMechanism) (ms : List ErrorMechanism) (at : ℕ) → last_equal s at ms ≡ shifted at (highest (λ k. same_symptom (get_or ms k z).symptom s) (length ms))
+unfolding last_equal highest shifted
 last_from s z [] at = refl
 last_from s z (m ∷ ms) at =
     ap (λ o. or_else o (same_symptom m.symptom s) at) (last_from s z ms (suc at))
-    ∙ or_else_lem (same_symptom m.symptom s) at (previous (λ k. same_symptom (get_or ms k z).symptom s) (length ms))
-    ∙ ap (shifted at) (sym (previous_front (λ k. same_symptom (get_or (m ∷ ms) k z).symptom s) (length ms)))
+    ∙ or_else_lem (same_symptom m.symptom s) at (highest (λ k. same_symptom (get_or ms k z).symptom s) (length ms))
+    ∙ ap (shifted at) (sym (highest_front (λ k. same_symptom (get_or (m ∷ ms) k z).symptom s) (length ms)))
 
-module _ (s : Symptom) (z : ErrorMechanism) (ms : List ErrorMechanism) (x : ℕ) (e : x ≡ previous (λ k. same_symptom (get_or ms k z).symptom s) (length ms)) where
-  pub last_some : (k : ℕ) → x ≡ suc k → last_equal s 0 ms ≡ some k
-  unfolding shifted
-  last_some k h = last_from s z ms 0 ∙ ap (shifted 0) (sym e ∙ h) ∙ ap some (omega arith)
-
-  pub last_none : x ≡ 0 → last_equal s 0 ms ≡ none
-  unfolding shifted
-  last_none h = last_from s z ms 0 ∙ ap (shifted 0) (sym e ∙ h)
+pub last_is : (s : Symptom) (z : ErrorMechanism) (ms : List ErrorMechanism) → last_equal s 0 ms ≡ highest (λ k. same_symptom (get_or ms k z).symptom s) (length ms)
+unfolding shifted
+last_is s z ms = last_from s z ms 0 ∙ unshifted (highest (λ k. same_symptom (get_or ms k z).symptom s) (length ms))
+  where
+    unshifted : (x : Option ℕ) → shifted 0 x ≡ x
+    unshifted None = refl
+    unshifted (Some k) = ap Some (omega arith)

@@ -1,10 +1,11 @@
 -- Every component, in order.
+use Rattle.std.specs.Prelude.{Option}
+use Rattle.std.specs.Prelude.{Some, None}
 use Prim.Native.Nat.{ℕ, suc, ◌+◌, ◌-◌, ◌<◌, ◌≤◌}
 use native.Mathlib.Omega.{arith}
 use mathlib.Core.Path.{◌≡◌, refl, sym, ap, ◌∙◌, subst}
 use mathlib.Core.List.{List, [], ◌∷◌, ◌++◌}
 use mathlib.Core.Bool.{true, false, not, ◌&&◌, ◌||◌}
-use mathlib.Core.Option.{Option, none, some}
 use lib.Dec.{leb}
 use lib.IntN.{pos}
 use lib.Ieee.{Float, fin}
@@ -21,8 +22,6 @@ use Rattle.dem.specs.Decompose.{Places, Split, into, refused, plus, add_at, has_
 use Rattle.dem.proofs.Checks.{first_of_lem, next_of, first_inside, others_inside}
 use Rattle.last_equal.specs.declared.Span.{Span}
 use Rattle.suggested.specs.declared.Size.{Size}
-use Rattle.suggested.specs.declared.Added.{Added}
-use Rattle.suggested.specs.declared.Added.TheVariants.{Now, Full}
 use Rattle.last_equal.specs.Last.{symptom_in, Component}
 use Rattle.suggested.specs.Held.{places_of, size_of, Holds, Outcome, components_from, Suggested}
 use Rattle.suggested.proofs.Models.{raised_length}
@@ -32,28 +31,23 @@ use Rattle.suggested.proofs.Models.{raised_length}
 abbrev pub span_at : ℕ → ℕ → List ℕ → List ℕ → Span
 span_at c e cds cos = record { at = e; detectors = get_or cds c 0; observables = get_or cos c 0 }
 
-module _ (n c e D : ℕ) (cds cos es : List ℕ) (h : 0 < n) where
+module _ (n m c e : ℕ) (cds cos es : List ℕ) (h : n ≡ suc m) where
   abbrev size_here : ℕ
   size_here = get_or cds c 0 + get_or cos c 0
 
-  pub components_turn : components_from n c e cds cos es ≡ symptom_in es (span_at c e cds cos) ∷ components_from (n - 1) (c + 1) (e + size_here) cds cos es
+  components_turn : components_from n c e cds cos es ≡ symptom_in es (span_at c e cds cos) ∷ components_from m (c + 1) (e + size_here) cds cos es
   unfolding components_of
   components_turn =
-      let m = n - 1 in
-      let p : n ≡ suc m = omega arith in
-      ap (λ (k : ℕ). components_from k c e cds cos es) p
+      ap (λ (k : ℕ). components_from k c e cds cos es) h
       ∙ rw (first_of_lem c cds 0, first_of_lem c cos 0, next_of c cds, next_of c cos, drop-drop (get_or cds c 0) e es, drop-drop size_here e es)
 
-  entries_turn : component_entries n (drop c cds) (drop c cos) ≡ size_here + component_entries (n - 1) (drop (c + 1) cds) (drop (c + 1) cos)
+  entries_turn : component_entries n (drop c cds) (drop c cos) ≡ size_here + component_entries m (drop (c + 1) cds) (drop (c + 1) cos)
   unfolding component_entries
-  entries_turn =
-      let m = n - 1 in
-      let p : n ≡ suc m = omega arith in
-      ap (λ (k : ℕ). component_entries k (drop c cds) (drop c cos)) p ∙ rw (first_of_lem c cds 0, first_of_lem c cos 0, next_of c cds, next_of c cos)
+  entries_turn = ap (λ (k : ℕ). component_entries k (drop c cds) (drop c cos)) h ∙ rw (first_of_lem c cds 0, first_of_lem c cos 0, next_of c cds, next_of c cos)
 
-  module _ (s : Suggested n c e D cds cos es) where
+  module _ (D : ℕ) (s : Suggested n c e D cds cos es) where
     rest : List Symptom
-    rest = components_from (n - 1) (c + 1) (e + size_here) cds cos es
+    rest = components_from m (c + 1) (e + size_here) cds cos es
 
     here : Symptom
     here = symptom_in es (span_at c e cds cos)
@@ -67,7 +61,7 @@ module _ (n c e D : ℕ) (cds cos es : List ℕ) (h : 0 < n) where
     alike = ap (any (λ r. not (one_or_two r))) (sym components_turn) ∙ s.one_or_two_is
 
     inside : e + size_here ≤ length es
-    inside = first_inside cds cos es n c e h s.within
+    inside = first_inside cds cos es n c e (omega arith) s.within
 
     some_detector : 0 < get_or cds c 0
     unfolding here
@@ -89,10 +83,10 @@ module _ (n c e D : ℕ) (cds cos es : List ℕ) (h : 0 < n) where
       observables = and_right (list_fits D here.detectors) (list_fits 128 here.observables) both;
     }
 
-    pub others_suggested : Suggested (n - 1) (c + 1) (e + size_here) D cds cos es
+    pub others_suggested : Suggested m (c + 1) (e + size_here) D cds cos es
     unfolding rest
     others_suggested = record {
-      within = others_inside cds cos es n c e h s.within;
+      within = let q : n - 1 ≡ m = omega arith in rw q at (others_inside cds cos es n c e (omega arith) s.within);
       small = omega (arith, s.small, entries_turn);
       checked = and_right (symptom_fits D 128 here) (symptoms_fit D 128 rest) fit;
       one_or_two_is = or_right (not (one_or_two here)) (any (λ r. not (one_or_two r)) rest) alike;
@@ -113,8 +107,8 @@ fresh p s = record { probability = plus (fin false 0 (pos 0)) p; symptom = s; co
 
 added_few : (room : Places) (p : Float) (s : Symptom) (ms : List ErrorMechanism) (o : Option ℕ) (ms' : List ErrorMechanism) → add_component room p s ms o ≡ into ms' → length ms' ≤ length ms + 1
 unfolding add_component
-added_few room p s ms (some k) ms' e = let q : add_at p k ms ≡ ms' = cc in omega (arith, ap length q, raised_length p k ms)
-added_few room p s ms none ms' e = case-of (has_place room s ms)
+added_few room p s ms (Some k) ms' e = let q : add_at p k ms ≡ ms' = cc in omega (arith, ap length q, raised_length p k ms)
+added_few room p s ms None ms' e = case-of (has_place room s ms)
     (λ t. let q = rw t at e in let w : ms ++ (fresh p s ∷ []) ≡ ms' = cc in omega (arith, ap length w, length-append ms (fresh p s ∷ [])))
     (λ f. let q = rw f at e in none_in Limit ms' q)
 
@@ -131,33 +125,55 @@ module _ (room : Size) (p : Float) (all : Split) (was : Tables) (es : List ℕ) 
     left_here : add_components (places_of room) p (s ∷ cs) (into k.model) ≡ all
     left_here = ap (λ (l : List Symptom). add_components (places_of room) p l (into k.model)) (sym t) ∙ k.left
 
-    next_of_split : (x : Split) (r : Added) (g : Size) → add_next (places_of room) p s (into k.model) ≡ x → Outcome x was r es starts' counts' others' ps' last' before' → r ≡ Now g
+    next_of_split : (x : Split) (g : Size) → add_next (places_of room) p s (into k.model) ≡ x → Outcome x was (Some g) es starts' counts' others' ps' last' before'
         → Continued cs g starts' counts' others' ps' last' before' × (g.mechanisms ≤ size.mechanisms + 1)
     unfolding add_components
-    next_of_split (into ms) r g e o q =
+    next_of_split (into ms) g e o =
+        let q = o.0 in
         let w : size_of ms ≡ g = cc in
         let few = added_few (places_of room) p s k.model (last_equal s 0 k.model) ms e in (
           record { model = ms; holds = rw (← w) o.1; left = ap (add_components (places_of room) p cs) (sym e) ∙ left_here },
           omega (arith, few, ap (λ (u : Size). u.mechanisms) w, ap (λ (u : Size). u.mechanisms) k.holds.sized),
         )
-    next_of_split (refused x) r g e o q = absurd (let z : ◌≡◌ {A = ℕ} 0 1 = cc in omega arith)
+    next_of_split (refused x) g e o = let q = o.1 in absurd (cc)
 
-    pub continue_next : (r : Added) (g : Size) → Outcome (add_next (places_of room) p s (into k.model)) was r es starts' counts' others' ps' last' before' → r ≡ Now g
+    continue_next : (g : Size) → Outcome (add_next (places_of room) p s (into k.model)) was (Some g) es starts' counts' others' ps' last' before'
         → Continued cs g starts' counts' others' ps' last' before' × (g.mechanisms ≤ size.mechanisms + 1)
-    continue_next r g o q = next_of_split (add_next (places_of room) p s (into k.model)) r g refl o q
+    continue_next g o = next_of_split (add_next (places_of room) p s (into k.model)) g refl o
 
-    full_of_split : (x : Split) (r : Added) → add_next (places_of room) p s (into k.model) ≡ x → Outcome x was r es starts' counts' others' ps' last' before' → r ≡ Full → all ≡ refused Limit
+    full_of_split : (x : Split) → add_next (places_of room) p s (into k.model) ≡ x → Outcome x was None es starts' counts' others' ps' last' before' → all ≡ refused Limit
     unfolding add_components
-    full_of_split (into ms) r e o q = absurd (let z : ◌≡◌ {A = ℕ} 0 1 = cc o.0 in omega arith)
-    full_of_split (refused x) r e o q = sym left_here ∙ ap (add_components (places_of room) p cs) e ∙ stopped (places_of room) p cs x ∙ ap refused o.0
+    full_of_split (into ms) e o = let q = o.0 in absurd (cc)
+    full_of_split (refused x) e o = sym left_here ∙ ap (add_components (places_of room) p cs) e ∙ stopped (places_of room) p cs x ∙ ap refused o.0
 
-    pub continue_full : (r : Added) → Outcome (add_next (places_of room) p s (into k.model)) was r es starts' counts' others' ps' last' before' → r ≡ Full → Outcome all was Full es starts' counts' others' ps' last' before'
-    continue_full r o q =
-        subst (λ (x : Split). Outcome x was Full es starts' counts' others' ps' last' before') (sym (full_of_split (add_next (places_of room) p s (into k.model)) r refl o q)) (refl, refl)
+    continue_full : Outcome (add_next (places_of room) p s (into k.model)) was None es starts' counts' others' ps' last' before' → Outcome all was None es starts' counts' others' ps' last' before'
+    continue_full o =
+        subst (λ (x : Split). Outcome x was None es starts' counts' others' ps' last' before') (sym (full_of_split (add_next (places_of room) p s (into k.model)) refl o)) (refl, refl)
 
-  pub continue_end : (cs : List Symptom) (size : Size) (starts counts others : List ℕ) (ps : List Float) (last before : List ℕ) → Continued cs size starts counts others ps last before → cs ≡ []
-      → Outcome all was (Now size) es starts counts others ps last before
+  continue_end : (cs : List Symptom) (size : Size) (starts counts others : List ℕ) (ps : List Float) (last before : List ℕ) → Continued cs size starts counts others ps last before → cs ≡ []
+      → Outcome all was (Some size) es starts counts others ps last before
   unfolding add_components
   continue_end cs size starts counts others ps last before k e =
       let q : into k.model ≡ all = ap (λ (l : List Symptom). add_components (places_of room) p l (into k.model)) (sym e) ∙ k.left in
-      subst (λ (x : Split). Outcome x was (Now size) es starts counts others ps last before) q (ap Now k.holds.sized, rw (← k.holds.sized) k.holds)
+      subst (λ (x : Split). Outcome x was (Some size) es starts counts others ps last before) q (ap Some k.holds.sized, rw (← k.holds.sized) k.holds)
+
+-- ---- the turns of the loop, at component c of those before `end`
+
+module _ (room : Size) (p : Float) (all : Split) (was : Tables) (cds cos es : List ℕ) (end c e : ℕ) (size : Size) (starts counts others : List ℕ) (ps : List Float) (last before : List ℕ)
+    (k : Continued room p all was es (components_from (end - c) c e cds cos es) size starts counts others ps last before) where
+  pub turn_end : end ≤ c → Outcome all was (Some size) es starts counts others ps last before
+  unfolding components_of
+  turn_end h = let z : end - c ≡ 0 = omega arith in continue_end room p all was es _ size starts counts others ps last before k (rw z)
+
+  module _ (h : c < end) (starts' counts' others' : List ℕ) (ps' : List Float) (last' before' : List ℕ) where
+    pub turn_full : Outcome (add_next (places_of room) p (symptom_in es (span_at c e cds cos)) (into k.model)) was None es starts' counts' others' ps' last' before'
+        → Outcome all was None es starts' counts' others' ps' last' before'
+    turn_full o =
+        let t = components_turn (end - c) (end - (c + 1)) c e cds cos es (omega arith) in
+        continue_full room p all was es _ _ _ t size starts counts others ps last before k starts' counts' others' ps' last' before' o
+
+    pub turn_next : (g : Size) → Outcome (add_next (places_of room) p (symptom_in es (span_at c e cds cos)) (into k.model)) was (Some g) es starts' counts' others' ps' last' before'
+        → Continued room p all was es (components_from (end - (c + 1)) (c + 1) (e + (get_or cds c 0 + get_or cos c 0)) cds cos es) g starts' counts' others' ps' last' before' × (g.mechanisms ≤ size.mechanisms + 1)
+    turn_next g o =
+        let t = components_turn (end - c) (end - (c + 1)) c e cds cos es (omega arith) in
+        continue_next room p all was es _ _ _ t size starts counts others ps last before k starts' counts' others' ps' last' before' g o

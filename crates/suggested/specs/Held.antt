@@ -1,4 +1,5 @@
 -- The model so far in its tables.
+use Rattle.std.specs.Prelude.{Option, Some, None}
 use Rattle.std.specs.Prelude.{ℕ, ◌+◌, ◌<◌, ◌≤◌, ◌≡◌, List, Bool, true, false, not, ◌&&◌, length, get_or, drop, leb, ltb, Float}
 use Rattle.codes.specs.declared.Refusal.TheVariants.{Limit}
 use Rattle.dem.specs.Model.{Symptom, ErrorMechanism, symptoms_fit}
@@ -8,8 +9,6 @@ use Rattle.lists.specs.Lists.{any}
 use Rattle.dem.specs.Decompose.{Places, Split, into, refused, entries_of, one_or_two}
 use Rattle.cover.specs.Kept.{detectors_at, symptom_at, Detectors, Observables}
 use Rattle.suggested.specs.declared.Size.{Size}
-use Rattle.suggested.specs.declared.Added.{Added}
-use Rattle.suggested.specs.declared.Added.TheVariants.{Now, Full}
 use Rattle.last_equal.specs.Last.{Chained}
 
 abbrev pub places_of : Size → Places
@@ -41,9 +40,9 @@ pub record Held (size : Size) (es starts counts others : List ℕ) (ps : List Fl
   pub holds : Holds ms was size es starts counts others ps last before
 
 -- what adding comes to: the model and its tables, or no place
-abbrev pub Outcome : Split → Tables → Added → List ℕ → List ℕ → List ℕ → List ℕ → List Float → List ℕ → List ℕ → Type 0
-Outcome (into ms) was r es starts counts others ps last before = (r ≡ Now (size_of ms)) × Holds ms was (size_of ms) es starts counts others ps last before
-Outcome (refused x) was r es starts counts others ps last before = (x ≡ Limit) × (r ≡ Full)
+abbrev pub Outcome : Split → Tables → Option Size → List ℕ → List ℕ → List ℕ → List ℕ → List Float → List ℕ → List ℕ → Type 0
+Outcome (into ms) was r es starts counts others ps last before = (r ≡ Some (size_of ms)) × Holds ms was (size_of ms) es starts counts others ps last before
+Outcome (refused x) was r es starts counts others ps last before = (x ≡ Limit) × (r ≡ None)
 
 -- so many new mechanisms of a room find their place in the tables
 pub record Roomy (n : ℕ) (size room : Size) (starts counts others : List ℕ) (ps : List Float) (before : List ℕ) : Type 0 where

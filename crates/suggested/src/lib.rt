@@ -19,27 +19,14 @@ pub struct Size {
     pub entries: usize,
 }
 
-// What adding a component comes to.
-#[derive(Clone, Copy)]
-pub enum Added {
-    Now(Size),
-    Full,
-}
-
 // Whether one more mechanism of so many entries finds its place.
 fn has_place(size: Size, room: Size, more: usize) -> bool
     ensures { result ≡ place_for size room more }
 {
-    if room.mechanisms <= size.mechanisms {
-        return false;
-    }
-    if codes::MAX_MECHANISMS <= size.mechanisms {
-        return false;
-    }
-    if room.entries < size.entries {
-        return false;
-    }
-    more <= room.entries - size.entries
+    size.mechanisms < room.mechanisms
+        && size.mechanisms < codes::MAX_MECHANISMS
+        && size.entries <= room.entries
+        && more <= room.entries - size.entries
 }
 
 // A new mechanism with the lists of s, at probability 0 with p added.
@@ -78,7 +65,7 @@ fn add_component(
     probability: &mut [f64],
     last_of: &mut [u32],
     before: &mut [u32],
-) -> Added
+) -> Option<Size>
     requires { Component (length last_of.old) s entries.now × Roomy 1 size room starts.old detector_counts.old observable_counts.old probability.old before.old × Held size entries.now starts.old detector_counts.old observable_counts.old probability.old last_of.old before.old }
     ensures { (ms : List ErrorMechanism) (was : Tables) → Holds ms was size entries.now starts.old detector_counts.old observable_counts.old probability.old last_of.old before.old → Outcome (add_next (places_of room) p (symptom_in entries.now s) (into ms)) was result entries.now starts.new detector_counts.new observable_counts.new probability.new last_of.new before.new }
 {
@@ -93,13 +80,13 @@ fn add_component(
         last_of,
         before,
     );
-    if 0 < found {
-        probability::raise(probability, found - 1, p);
-        return Added::Now(size);
+    if let Some(k) = found {
+        probability::raise(probability, k, p);
+        return Some(size);
     }
     let more = s.detectors as usize + s.observables as usize;
     if !has_place(size, room, more) {
-        return Added::Full;
+        return None;
     }
     append(
         s,
@@ -113,7 +100,7 @@ fn add_component(
         last_of,
         before,
     );
-    Added::Now(Size {
+    Some(Size {
         mechanisms: n + 1,
         entries: size.entries + more,
     })
@@ -135,24 +122,20 @@ pub fn add_components(
     probability: &mut [f64],
     last_of: &mut [u32],
     before: &mut [u32],
-) -> Added
+) -> Option<Size>
     requires { Suggested n place.component place.entry (length last_of.old) component_detectors.now component_observables.now entries.now × Roomy n size room starts.old detector_counts.old observable_counts.old probability.old before.old × Held size entries.now starts.old detector_counts.old observable_counts.old probability.old last_of.old before.old }
     ensures { (ms : List ErrorMechanism) (was : Tables) → Holds ms was size entries.now starts.old detector_counts.old observable_counts.old probability.old last_of.old before.old → Outcome (add_components (places_of room) p (components_from n place.component place.entry component_detectors.now component_observables.now entries.now) (into ms)) was result entries.now starts.new detector_counts.new observable_counts.new probability.new last_of.new before.new }
 {
-    let mut left = n;
-    let mut component = place.component;
     let mut entry = place.entry;
     let mut sized = size;
-    while 0 < left {
-        left -= 1;
+    for component in place.component..place.component + n {
         let s = Span {
             at: entry,
             detectors: component_detectors[component],
             observables: component_observables[component],
         };
-        component += 1;
         entry += s.detectors as usize + s.observables as usize;
-        let added = add_component(
+        sized = add_component(
             s,
             p,
             sized,
@@ -164,11 +147,7 @@ pub fn add_components(
             probability,
             last_of,
             before,
-        );
-        let Added::Now(grown) = added else {
-            return Added::Full;
-        };
-        sized = grown;
+        )?;
     }
-    Added::Now(sized)
+    Some(sized)
 }

@@ -1,5 +1,5 @@
 -- Laws of marks: lit by a list of what is lit, and cleared by a list of what may be marked. Assumes nothing.
-use Prim.Native.Nat.{ℕ, ◌+◌, ◌≤◌, ◌<◌}
+use Prim.Native.Nat.{ℕ, ◌+◌, ◌<◌}
 use native.Mathlib.Omega.{arith}
 use native.Mathlib.Numerals.{add-one}
 use mathlib.Core.Path.{◌≡◌, refl, sym, ap, ◌∙◌}
@@ -18,16 +18,12 @@ use Rattle.tables.specs.Marks.{Places, Painted}
 pub record Painting (list : List ℕ) (n : ℕ) (b : Bool) (t₀ : List Bool) (i : ℕ) (t : List Bool) : Type 0 where
   pub done : (y : ℕ) → y < length t₀ → get_or t y false ≡ cond (member y (take i list)) b (get_or t₀ y false)
   pub size : length t ≡ length t₀
-  pub to : i ≤ n
 
 pub start_paint : (list : List ℕ) (n : ℕ) (b : Bool) (t₀ : List Bool) → Painting list n b t₀ 0 t₀
 unfolding member
-start_paint list n b t₀ = record { done = λ y l. refl; size = refl; to = omega arith }
+start_paint list n b t₀ = record { done = λ y l. refl; size = refl }
 
 module _ {list : List ℕ} {n : ℕ} {b : Bool} {t₀ : List Bool} (p : Places list n t₀) {i : ℕ} {t : List Bool} (k : Painting list n b t₀ i t) where
-  pub end_paint : n ≤ i → Painted list n b t₀ t
-  end_paint h = let q : i ≡ n = omega (arith, k.to) in rw q at k.done
-
   module _ (h : i < n) where
     -- the place
     abbrev x : ℕ
@@ -51,7 +47,6 @@ module _ {list : List ℕ} {n : ℕ} {b : Bool} {t₀ : List Bool} (p : Places l
           (λ f. get_or-set_other t x y b false (eqb-false y x f) ∙ k.done y l
           ∙ sym (ap (λ c. cond c b (get_or t₀ y false)) (more y ∙ ap (λ c. member y (take i list) || c) f ∙ or-false (member y (take i list)))));
       size = length-set t x b ∙ k.size;
-      to = omega arith;
     }
 
 -- ---- the shot

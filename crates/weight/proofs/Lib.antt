@@ -5,5 +5,6 @@ pub mod Laws
 pub mod Ops
 pub mod Parts
 pub mod Range
+pub mod Steps
 pub mod Table
 pub mod Values

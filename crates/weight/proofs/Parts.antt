@@ -8,7 +8,7 @@ use lib.IntN.{pos}
 use lib.Dec.{T, leb, ltb, eqb, eqb→eq, nltb→le, nleb→lt, le→leb, not_T, T_not}
 use borrow.Author.Tests.{lt-leb}
 use lib.Pow.{pow-add, pow_pos, pow_mono, shl_lt}
-use lib.Ieee.{Float, nan, inf, fin, binary64, up, down, odd, fits, le, lt, is_nan, nan_bits, in_float, of_fields, of_bits, to_bits}
+use lib.Ieee.{Float, nan, inf, fin, binary64, up, down, odd, fits, le, lt, nan_bits, in_float, of_fields, of_bits, to_bits}
 use lib.Ieee.Fits.{down_pos, and_l, eq→eqb}
 use lib.Ieee.Bits.{cond_no, to_bits-lt, of_bits-to_bits}
 use lib.Ieee.Exact.{HasValue, odd_sign}
@@ -57,17 +57,6 @@ above : (y : Float) → le y one ≡ false → lt y infinity ≡ true → Above 
 above y a b = above' y (rw one_is at a) (rw infinity_is at b)
 
 -- ---- what the code asks of the two patterns
--- by the cases of a float
-no_nan' : (y : Float) → Above y → T (not (is_nan y))
-unfolding is_nan
-no_nan' nan a = a
-no_nan' (inf s) a = absurd a
-no_nan' (fin s m e) a = tt
-
--- y has a pattern
-pub no_nan : (y : Float) → le y one ≡ false → lt y infinity ≡ true → T (not (is_nan y))
-no_nan y a b = no_nan' y (above y a b)
-
 -- the field of m's pattern is not that of a NaN
 apart : (b : ℕ) → (b % 4503599627370496 + 4607182418800017408) % 9223372036854775808 / 4503599627370496 ≡ 2047 → ⊥
 apart b h = omega arith

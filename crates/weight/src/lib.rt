@@ -40,19 +40,19 @@ fn coefficient(i: usize) -> f64
 }
 
 // 1 + s/3 + s^2/5 + .., sixteen terms by Horner's rule.
+#[tactic(auto, unfolding(crate::specs::Weight::sum_at), using(crate::proofs::Steps::step, crate::proofs::Steps::done))]
 fn sum_at(s: f64) -> f64
     ensures { result ≡ sum_at s }
 {
     let mut r = coefficient(15);
-    let mut i = 15usize;
-    while 0 < i {
-        i -= 1;
+    for i in (0..15).rev() {
         r = r * s + coefficient(i);
     }
     r
 }
 
 // ln((1 + t) / (1 - t)).
+#[tactic(auto, unfolding(crate::specs::Weight::series))]
 fn series_at(t: f64) -> f64
     ensures { result ≡ series t }
 {
@@ -60,11 +60,12 @@ fn series_at(t: f64) -> f64
 }
 
 // ln y, for a finite y above 1: y = m * 2^k is read off its pattern, so that both are exact.
+#[tactic(auto, unfolding(crate::specs::Weight::logarithm))]
 fn logarithm(y: f64) -> f64
     requires { (Ieee.le y one ≡ false) × (Ieee.lt y infinity ≡ true) }
     ensures { result ≡ logarithm y }
 {
-    let bits = f64::to_bits(y);
+    let bits = y.to_bits();
     let m = f64::from_bits(bits % EXPONENT + ONE);
     let k = bits / EXPONENT - 1023;
     (k as f64) * 0.6931471805599453 + series_at((m - 1.0) / (m + 1.0))
@@ -72,13 +73,16 @@ fn logarithm(y: f64) -> f64
 
 // The weight of p, of every p: 0 where p is finite and below 0, -0.0, or 0.5 or more; infinity where p is 0, or so small that y is infinite.
 // Where p is infinite or a NaN, y is a NaN, and the weight is infinity.
+#[tactic(auto, unfolding(crate::specs::Weight::weight_of, crate::specs::Weight::weight_at))]
 pub fn weight(p: f64) -> f64
     ensures { result ≡ weight_of p }
 {
     let y = (1.0 - p) / p;
     if y <= 1.0 {
-        return 0.0;
+        0.0
+    } else if y < f64::INFINITY {
+        logarithm(y)
+    } else {
+        f64::INFINITY
     }
-    let infinity = f64::from_bits(0x7ff0_0000_0000_0000);
-    if y < infinity { logarithm(y) } else { infinity }
 }

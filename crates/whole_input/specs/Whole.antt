@@ -1,5 +1,5 @@
 -- An input that lies whole in memory, and what is written of it.
-use Rattle.std.specs.Prelude.{ℕ, ◌+◌, ◌≤◌, ◌≡◌, cond, List, [], leb, length, take}
+use Rattle.std.specs.Prelude.{Option, Some, None, ℕ, ◌+◌, ◌≤◌, ◌≡◌, cond, List, [], leb, length, take}
 use Rattle.std.proofs.lemmas.List.Edits.{sets}
 use Rattle.edges.specs.Tables.{Slices}
 use Rattle.reader.specs.Columns.{Columns}
@@ -7,25 +7,23 @@ use Rattle.session.specs.Output.{Session, begin, output_of}
 use Rattle.stream.specs.declared.Place.{Place}
 use Rattle.stream.specs.Text.{Comes}
 use Rattle.stream.specs.Fed.{between, At}
-use Rattle.whole_input.specs.declared.Output.{Output}
-use Rattle.whole_input.specs.declared.Output.TheVariants as output
 
 -- ---- the call
 
 -- a text of so many bytes in an output of so many: all of it, or there is no room for all
-abbrev pub fitted : ℕ → ℕ → Output
-fitted size room = cond (leb size room) (output.Whole size) output.NoRoom
+abbrev pub fitted : ℕ → ℕ → Option ℕ
+fitted size room = cond (leb size room) (Some size) None
 
 -- all that the call promises: whether there was room for all that the input is answered with, and every byte of the output. `sets` stores byte by byte from the front,
 -- as far as the slice goes: the bytes past the text are as they were, and where there is no room the output holds as much of the text as fits
-pub record Answered (input : List ℕ) (r : Output) (was out : List ℕ) : Type 0 where
+pub record Answered (input : List ℕ) (r : Option ℕ) (was out : List ℕ) : Type 0 where
   pub answer : r ≡ fitted (length (output_of input)) (length was)
   pub text : out ≡ sets was 0 (output_of input)
 
 -- ---- on the way
 
 -- text stored behind the first bytes, as far as it fits
-pub record Put (text : List ℕ) (at : ℕ) (r : Output) (was out : List ℕ) : Type 0 where
+pub record Put (text : List ℕ) (at : ℕ) (r : Option ℕ) (was out : List ℕ) : Type 0 where
   pub answer : r ≡ fitted (at + length text) (length was)
   pub output : out ≡ sets was at text
 

@@ -1,40 +1,27 @@
 // docs/RULES.md, "Frames": an input that lies whole in memory, answered from its first byte to its end.
 #![tactic(auto)]
 
-ghost use Rattle.std.specs.Prelude.{◌≡◌, [], ◌≤◌, length};
+ghost use Rattle.std.specs.Prelude.{[], ◌≤◌, length};
 ghost use Rattle.edges.specs.Tables.{slices};
 ghost use Rattle.reader.specs.Columns.{columns_of};
 ghost use Rattle.whole_input.specs.Whole.{Answered, Put};
 ghost use Rattle.stream.specs.Long.{Long};
 
-use stream::{Fed, Place};
-
-#[derive(Clone, Copy)]
-pub enum Output {
-    // so many bytes, all that the input is answered with
-    Whole(usize),
-    // the output is shorter than that
-    NoRoom,
-}
-
-fn entries() -> [u32; 8192]
-    ensures { 8192 ≡ length result }
-{
-    [0; 8192]
-}
+use std::ops::ControlFlow;
+use stream::Place;
 
 // A text behind the first bytes of the output, as far as it fits.
-fn put(text: &[u8], at: usize, out: &mut [u8]) -> Output
+fn put(text: &[u8], at: usize, out: &mut [u8]) -> Option<usize>
     requires { at ≤ length out.old }
     ensures { Put text.now at result out.old out.new }
 {
     let room = out.len() - at;
     if room < text.len() {
-        tables::copy_bytes(&text[0..room], out, at);
-        return Output::NoRoom;
+        tables::copy_to(&text[..room], out, at);
+        return None;
     }
-    tables::copy_bytes(text, out, at);
-    Output::Whole(at + text.len())
+    tables::copy_to(text, out, at);
+    Some(at + text.len())
 }
 
 // Line after line, then the end. The answers to some lines are gathered, then put behind the others. Long for its parameters, one a line.
@@ -51,12 +38,13 @@ fn answer_over(
     edge_obs: &mut [u64],
     reply: &mut [u8],
     out: &mut [u8],
-) -> Output
+) -> Option<usize>
     requires { Long (columns_of probability_bits.old counts.old entries.old shot.old) (slices edge_u.old edge_v.old edge_weight.old edge_obs.old []) line.old reply.old }
     ensures { Answered input.now result out.old out.new }
 {
     let mut p = stream::start();
     let mut at = 0;
+    // kept: each turn takes as much of the input as a line or a block is long
     while p.taken < input.len() {
         let fed = stream::feed(
             input,
@@ -73,23 +61,10 @@ fn answer_over(
             reply,
         );
         match fed {
-            Fed::Ended(n) => return put(&reply[0..n], at, out),
-            Fed::On(q) => {
-                let n = q.filled;
-                let told = put(&reply[0..n], at, out);
-                match told {
-                    Output::NoRoom => return Output::NoRoom,
-                    Output::Whole(next) => {
-                        let numbers = q.numbers;
-                        at = next;
-                        p = Place {
-                            numbers: numbers,
-                            used: q.used,
-                            taken: q.taken,
-                            filled: 0,
-                        };
-                    }
-                }
+            ControlFlow::Break(n) => return put(&reply[..n], at, out),
+            ControlFlow::Continue(q) => {
+                at = put(&reply[..q.filled], at, out)?;
+                p = Place { filled: 0, ..q };
             }
         }
     }
@@ -107,17 +82,17 @@ fn answer_over(
         edge_obs,
         reply,
     );
-    put(&reply[0..n], at, out)
+    put(&reply[..n], at, out)
 }
 
 // What an input is answered with, at the front of the output, as far as it fits. Long for its tables, one a line.
-pub fn answer_input(input: &[u8], out: &mut [u8]) -> Output
+pub fn answer_input(input: &[u8], out: &mut [u8]) -> Option<usize>
     ensures { Answered input.now result out.old out.new }
 {
     let mut line = [0u8; 2062];
     let mut probability_bits = [0u64; 1024];
     let mut counts = [[0u8; 5]; 1024];
-    let mut entries = crate::entries();
+    let mut entries = [0u32; 8192];
     let mut shot = [0u64; 6];
     let mut edge_u = [0u32; 1024];
     let mut edge_v = [0u32; 1024];

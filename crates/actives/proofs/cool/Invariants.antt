@@ -1,5 +1,5 @@
 -- `actives::cool` meets its contract. Assumes nothing.
-use Prim.Native.Nat.{ℕ, ◌-◌, ◌≤◌}
+use Prim.Native.Nat.{ℕ}
 use mathlib.Core.Path.{◌≡◌}
 use mathlib.Core.List.{[], ◌∷◌}
 use mathlib.Core.Bool.{false, not, ◌&&◌}
@@ -9,7 +9,4 @@ use Rattle.cells.specs.Tables.{hots, frees, active, SameFlags}
 use Rattle.actives.proofs.cool.Given as goal
 
 abbrev pub invariant-loop-i : goal.invariant-loop-i
-invariant-loop-i l = (l.i ≤ l.a) × SameFlags (3 ∷ 4 ∷ []) l.initial.flags l.flags × ((r : ℕ) → get_or (hots l.flags) r false ≡ (get_or (hots l.initial.flags) r false && not (member r (take l.i (active l.stacks))))) × ((r : ℕ) → get_or (frees l.flags) r false ≡ (get_or (frees l.initial.flags) r false && not (member r (take l.i (active l.stacks)))))
-
-abbrev pub decreases-loop-i : goal.decreases-loop-i
-decreases-loop-i l = l.a - l.i
+invariant-loop-i l = SameFlags (3 ∷ 4 ∷ []) l.initial.flags l.flags × ((r : ℕ) → get_or (hots l.flags) r false ≡ (get_or (hots l.initial.flags) r false && not (member r (take l.i (active l.stacks))))) × ((r : ℕ) → get_or (frees l.flags) r false ≡ (get_or (frees l.initial.flags) r false && not (member r (take l.i (active l.stacks)))))

@@ -7,14 +7,6 @@ pub loop-e-init : goal.loop-e-init
 loop-e-init c =
     start_count c.requires.sized c.requires.adj_offsets_value
 
-pub overflow_cast-a : goal.overflow_cast-a
-overflow_cast-a c =
-    omega (arith, near_in c.requires.sized c.loop-e.invariant c.loop-e-test.true)
-
-pub offset_bounds-adj_offsets-a : goal.offset_bounds-adj_offsets-a
-offset_bounds-adj_offsets-a c =
-    omega (arith, near_in c.requires.sized c.loop-e.invariant c.loop-e-test.true, c.loop-e.invariant.offs)
-
 pub bounds-adj_offsets-a : goal.bounds-adj_offsets-a
 bounds-adj_offsets-a c =
     omega (arith, near_in c.requires.sized c.loop-e.invariant c.loop-e-test.true, c.loop-e.invariant.offs)
@@ -23,21 +15,9 @@ pub overflow_add-adj_offsets : goal.overflow_add-adj_offsets
 overflow_add-adj_offsets c =
     omega (arith, near_few c.requires.sized c.loop-e.invariant c.loop-e-test.true, c.requires.sized.few)
 
-pub offset_bounds-adj_offsets-a-in-loop-e : goal.offset_bounds-adj_offsets-a-in-loop-e
-offset_bounds-adj_offsets-a-in-loop-e c =
-    omega (arith, near_in c.requires.sized c.loop-e.invariant c.loop-e-test.true, c.loop-e.invariant.offs)
-
 pub bounds-adj_offsets-a-in-loop-e : goal.bounds-adj_offsets-a-in-loop-e
 bounds-adj_offsets-a-in-loop-e c =
     omega (arith, near_in c.requires.sized c.loop-e.invariant c.loop-e-test.true, c.loop-e.invariant.offs)
-
-pub overflow_cast-b : goal.overflow_cast-b
-overflow_cast-b c =
-    omega (arith, far_in c.requires.sized c.loop-e.invariant c.loop-e-test.true c.if-far.true)
-
-pub offset_bounds-adj_offsets-b : goal.offset_bounds-adj_offsets-b
-offset_bounds-adj_offsets-b c =
-    omega (arith, far_in c.requires.sized c.loop-e.invariant c.loop-e-test.true c.if-far.true, c.loop-e.invariant.offs)
 
 pub bounds-adj_offsets-b : goal.bounds-adj_offsets-b
 bounds-adj_offsets-b c =
@@ -46,10 +26,6 @@ bounds-adj_offsets-b c =
 pub overflow_add-adj_offsets-then-far : goal.overflow_add-adj_offsets-then-far
 overflow_add-adj_offsets-then-far c =
     omega (arith, far_few c.requires.sized c.loop-e.invariant c.loop-e-test.true c.if-far.true, c.requires.sized.few)
-
-pub offset_bounds-adj_offsets-b-then-far : goal.offset_bounds-adj_offsets-b-then-far
-offset_bounds-adj_offsets-b-then-far c =
-    omega (arith, far_in c.requires.sized c.loop-e.invariant c.loop-e-test.true c.if-far.true, c.loop-e.invariant.offs)
 
 pub bounds-adj_offsets-b-then-far : goal.bounds-adj_offsets-b-then-far
 bounds-adj_offsets-b-then-far c =
@@ -62,10 +38,6 @@ loop-e-preserved-then-far c =
 pub loop-e-preserved : goal.loop-e-preserved
 loop-e-preserved c =
     turn_single c.requires.sized c.loop-e.invariant c.loop-e-test.true c.if-far.false
-
-pub shape_of-adj_offsets : goal.shape_of-adj_offsets
-shape_of-adj_offsets c =
-    omega (arith, c.loop-e.invariant.offs, c.requires.sized.offs)
 
 pub returns : goal.returns
 returns c =

@@ -4,6 +4,3 @@ use Rattle.adjacency.proofs.degrees.Given as goal
 
 abbrev pub invariant-loop-e : goal.invariant-loop-e
 invariant-loop-e l = Counting l.d l.edge_u l.edge_v l.e l.adj_offsets
-
-abbrev pub decreases-loop-e : goal.decreases-loop-e
-decreases-loop-e l = l.e

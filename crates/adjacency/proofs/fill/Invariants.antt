@@ -5,6 +5,3 @@ use Rattle.adjacency.proofs.fill.Given as goal
 
 abbrev pub invariant-loop-e : goal.invariant-loop-e
 invariant-loop-e l = Filling l.d l.edge_u l.edge_v (near l.initial.adj) (away l.initial.adj) l.e l.adj_offsets (near l.adj) (away l.adj)
-
-abbrev pub decreases-loop-e : goal.decreases-loop-e
-decreases-loop-e l = l.e

@@ -8,9 +8,9 @@ use Rattle.batch_rows.specs.Ready.{Ready}
 use Rattle.batch_rows.specs.Rows.{check_shots_of, rows_of}
 use Rattle.batch_rows.proofs.decode_rows.Given as goal
 
-abbrev pub invariant-loop-next : goal.invariant-loop-next
-invariant-loop-next l = (check_shots_of (graph_in l.detectors l.observables l.edge_u l.edge_v l.edge_weight l.edge_obs) l.rows (from (l.shots - l.next) l.next) ≡ check_shots_of (graph_in l.detectors l.observables l.edge_u l.edge_v l.edge_weight l.edge_obs) l.rows (below l.shots))
-    × (rows_of (graph_in l.detectors l.observables l.edge_u l.edge_v l.edge_weight l.edge_obs) l.rows (from (l.shots - l.next) l.next) l.out ≡ rows_of (graph_in l.detectors l.observables l.edge_u l.edge_v l.edge_weight l.edge_obs) l.rows (below l.shots) l.initial.out)
+abbrev pub invariant-loop-shot : goal.invariant-loop-shot
+invariant-loop-shot l = (check_shots_of (graph_in l.detectors l.observables l.edge_u l.edge_v l.edge_weight l.edge_obs) l.rows (from (l.shots - l.shot) l.shot) ≡ check_shots_of (graph_in l.detectors l.observables l.edge_u l.edge_v l.edge_weight l.edge_obs) l.rows (below l.shots))
+    × (rows_of (graph_in l.detectors l.observables l.edge_u l.edge_v l.edge_weight l.edge_obs) l.rows (from (l.shots - l.shot) l.shot) l.out ≡ rows_of (graph_in l.detectors l.observables l.edge_u l.edge_v l.edge_weight l.edge_obs) l.rows (below l.shots) l.initial.out)
     × Ready l.detectors (length l.edge_u) l.tree l.flags l.stacks l.links l.growth l.sat
     × (length l.out ≡ length l.initial.out)
     × (length l.list ≡ length l.initial.list)
@@ -20,6 +20,3 @@ invariant-loop-next l = (check_shots_of (graph_in l.detectors l.observables l.ed
     × (length l.links ≡ length l.initial.links)
     × (length l.growth ≡ length l.initial.growth)
     × (length l.sat ≡ length l.initial.sat)
-
-abbrev pub decreases-loop-next : goal.decreases-loop-next
-decreases-loop-next l = l.shots - l.next

@@ -1,6 +1,4 @@
--- `clusters::saturate` meets its contract. Assumes nothing.
 use mathlib.Core.Path.{refl, ◌∙◌}
-use mathlib.Core.Bool.{false, true}
 use mathlib.Core.List.{[], ◌∷◌}
 use native.Mathlib.Omega.{arith}
 use Rattle.columns.proofs.Columns.{keep_then, keep_more, keep_length}
@@ -9,47 +7,27 @@ use Rattle.adjacency.proofs.Laws.{u_in, v_in}
 use Rattle.clusters.proofs.Laws.{saturate_single, saturate_pair}
 use Rattle.clusters.proofs.saturate.Goals as goal
 
-pub activate-m-requires : goal.activate-m-requires
-activate-m-requires c =
-    record {
-      listed = c.requires.ready.lists;
-      x_lt_d = (u_in c.args.d c.args.edge_u.now c.args.edge_v.now c.requires.ready.ends c.args.e c.requires.e_in_bounds, c.requires.wide.1, c.requires.wide.2);
-    }
-
-pub overflow_cast-a : goal.overflow_cast-a
-overflow_cast-a c =
-    omega (arith, u_in c.args.d c.args.edge_u.now c.args.edge_v.now c.requires.ready.ends c.args.e c.requires.e_in_bounds, c.requires.ready.ends.small)
-
-pub leave-requires : goal.leave-requires
-leave-requires c =
-    (record { down = c.requires.ready.down; exits = c.requires.ready.exits; first = u_in c.args.d c.args.edge_u.now c.args.edge_v.now c.requires.ready.ends c.args.e c.requires.e_in_bounds }, c.requires.wide.0)
-
 pub returns-then-b : goal.returns-then-b
 returns-then-b c =
-    (rw (c.activate-m.ensures.1.rest 2 refl) (saturate_single c.args.d c.args.edge_u.now c.args.edge_v.now c.requires.ready.ends c.args.e c.requires.e_in_bounds c.args.sat.now (knowns c.args.flags.now) (omega (arith, c.requires.e_in_bounds, c.requires.ready.sats)) (parents c.args.tree.now) c.requires.ready.down (odds c.args.flags.now) (exits c.args.tree.now) _ _ _ c.activate-m.ensures.0 c.if-b.true _ _ c.leave.ensures.0), c.leave.ensures.1, (keep_more false (1 ∷ 2 ∷ []) refl c.activate-m.ensures.1), c.activate-m.ensures.2)
+    (rw (c.activate-m.ensures.1.rest 2 refl) (saturate_single c.args.d c.args.edge_u.now c.args.edge_v.now c.requires.ready.ends c.args.e c.requires.e_in_bounds c.args.sat.now (knowns c.args.flags.now) (omega arith) (parents c.args.tree.now) c.requires.ready.down (odds c.args.flags.now) (exits c.args.tree.now) _ _ _ c.activate-m.ensures.0 c.if-b.true _ _ c.leave.ensures.0), c.leave.ensures.1, keep_more (1 ∷ 2 ∷ []) refl c.activate-m.ensures.1, c.activate-m.ensures.2)
 
-pub activate-k-requires : goal.activate-k-requires
-activate-k-requires c =
-    record {
-      listed = c.activate-m.ensures.0.lists;
-      x_lt_d = ((v_in c.args.d c.args.edge_u.now c.args.edge_v.now c.requires.ready.ends c.args.e c.requires.e_in_bounds c.if-b.false).1, c.activate-m.ensures.1.rows, c.activate-m.ensures.2.rows);
-    }
-
-pub overflow_cast-a-2 : goal.overflow_cast-a-2
-overflow_cast-a-2 c =
-    omega (arith, u_in c.args.d c.args.edge_u.now c.args.edge_v.now c.requires.ready.ends c.args.e c.requires.e_in_bounds, c.requires.ready.ends.small)
-
-pub overflow_cast-b : goal.overflow_cast-b
-overflow_cast-b c =
-    omega (arith, v_in c.args.d c.args.edge_u.now c.args.edge_v.now c.requires.ready.ends c.args.e c.requires.e_in_bounds c.if-b.false, c.requires.ready.ends.small)
+pub activate-k-requires-clause-x_lt_d : goal.activate-k-requires-clause-x_lt_d
+activate-k-requires-clause-x_lt_d c = (v_in c.args.d c.args.edge_u.now c.args.edge_v.now c.requires.ready.ends c.args.e c.requires.e_in_bounds c.if-b.false).1
 
 pub union-requires : goal.union-requires
 union-requires c =
     record {
-      joining = record { down = c.requires.ready.down; odds = keep_length false (keep_then false c.activate-m.ensures.1 c.activate-k.ensures.1) 2 ∙ c.requires.ready.odds; exits = c.requires.ready.exits; small = omega (arith, c.requires.ready.ends.small); first = u_in c.args.d c.args.edge_u.now c.args.edge_v.now c.requires.ready.ends c.args.e c.requires.e_in_bounds; second = (v_in c.args.d c.args.edge_u.now c.args.edge_v.now c.requires.ready.ends c.args.e c.requires.e_in_bounds c.if-b.false).1 };
-      wide = (c.requires.wide.0, c.activate-k.ensures.1.rows);
+      joining = record {
+        down = c.requires.ready.down;
+        odds = keep_length (keep_then c.activate-m.ensures.1 c.activate-k.ensures.1) 2 ∙ c.requires.ready.odds;
+        exits = c.requires.ready.exits;
+        small = omega (arith, c.requires.ready.ends.small);
+        first = u_in c.args.d c.args.edge_u.now c.args.edge_v.now c.requires.ready.ends c.args.e c.requires.e_in_bounds;
+        second = (v_in c.args.d c.args.edge_u.now c.args.edge_v.now c.requires.ready.ends c.args.e c.requires.e_in_bounds c.if-b.false).1;
+      };
     }
 
 pub returns : goal.returns
 returns c =
-    (rw (c.union.ensures.2.rest 1 refl) (saturate_pair c.args.d c.args.edge_u.now c.args.edge_v.now c.requires.ready.ends c.args.e c.requires.e_in_bounds c.args.sat.now (knowns c.args.flags.now) (omega (arith, c.requires.e_in_bounds, c.requires.ready.sats)) (parents c.args.tree.now) c.requires.ready.down (odds c.args.flags.now) (exits c.args.tree.now) _ _ _ c.activate-m.ensures.0 c.if-b.false _ _ _ c.activate-k.ensures.0 _ _ _ (rw ((keep_then false c.activate-m.ensures.1 c.activate-k.ensures.1).rest 2 refl) at c.union.ensures.0)), c.union.ensures.1, (keep_then false (keep_then false (keep_more false (1 ∷ 2 ∷ []) refl c.activate-m.ensures.1) (keep_more false (1 ∷ 2 ∷ []) refl c.activate-k.ensures.1)) (keep_more false (1 ∷ 2 ∷ []) refl c.union.ensures.2)), keep_then 0 c.activate-m.ensures.2 c.activate-k.ensures.2)
+    let k = keep_then c.activate-m.ensures.1 c.activate-k.ensures.1 in
+    (rw (c.union.ensures.2.rest 1 refl) (saturate_pair c.args.d c.args.edge_u.now c.args.edge_v.now c.requires.ready.ends c.args.e c.requires.e_in_bounds c.args.sat.now (knowns c.args.flags.now) (omega arith) (parents c.args.tree.now) c.requires.ready.down (odds c.args.flags.now) (exits c.args.tree.now) _ _ _ c.activate-m.ensures.0 c.if-b.false _ _ _ c.activate-k.ensures.0 _ _ _ (rw (k.rest 2 refl) at c.union.ensures.0)), c.union.ensures.1, keep_then (keep_more (1 ∷ 2 ∷ []) refl k) (keep_more (1 ∷ 2 ∷ []) refl c.union.ensures.2), keep_then c.activate-m.ensures.2 c.activate-k.ensures.2)

@@ -1,47 +1,56 @@
-use Prim.Native.Nat.{◌-◌}
-use mathlib.Core.Path.{◌≡◌, refl, ◌∙◌}
-use mathlib.Core.List.{[], ◌∷◌}
-use mathlib.Core.Bool.{false}
+use Prim.Native.Nat.{ℕ, ◌<◌, ◌≤◌}
 use native.Mathlib.Omega.{arith}
-use lib.ListN.{get_or}
-use lib.Seq.{slice_empty}
+use mathlib.Core.Path.{◌≡◌, refl, sym}
+use mathlib.Core.List.{List}
+use lib.ListN.{length, get_or, take, get_or-map}
+use lib.Seq.{slice_empty, get_or-take, length-take-le}
 use Rattle.growth_state.proofs.Laws.{slice_next}
-use Rattle.columns.proofs.Columns.{column_length, keep_none, keep_then, keep_more, keep_length}
-use Rattle.cells.specs.Tables.{hots, frees, front}
+use Rattle.columns.proofs.Columns.{column_length, keep_then, keep_length}
+use Rattle.cells.specs.declared.Stack.{Stack}
+use Rattle.cells.specs.Tables.{front, link_column, stack_column}
 use Rattle.counting.proofs.Laws.{taken_room, gathering_turn, gathered}
 use Rattle.counting.proofs.count.Goals as goal
 
-pub loop-i-init : goal.loop-i-init
-loop-i-init c =
-    (omega arith, record { same = refl; long = refl; longs = refl; past = omega arith; lists = refl; counts = refl; freed = λ r. refl }, keep_more false (4 ∷ []) refl (keep_none false c.args.flags.now c.requires.wide.0), keep_more 0 (0 ∷ 1 ∷ []) refl (keep_none 0 c.args.links.now c.requires.wide.1))
+abbrev empty : Stack
+empty = record { defect = 0; seen = 0; active = 0; front = 0; order_edge = 0; order_parent = 0 }
 
-pub stack-x-requires : goal.stack-x-requires
-stack-x-requires c = (omega (arith, c.loop-i-test.true, c.loop-i.invariant.0, c.requires.counting.fronts, column_length 0 3 c.args.stacks.now), omega arith)
+many : (stacks : List Stack) (m : ℕ) → m ≤ length (front stacks) → length (take m stacks) ≡ m
+many stacks m h = length-take-le m stacks (omega (arith, column_length stack_column 3 stacks))
 
-pub count_at-at-requires : goal.count_at-at-requires
-count_at-at-requires c =
+front_is : (stacks : List Stack) (m i : ℕ) → i < m → (get_or (take m stacks) i empty).front ≡ get_or (front stacks) i 0
+front_is stacks m i h =
+    rw (get_or-take m stacks i empty h) (sym (get_or-map (λ r. r.front) stacks i empty))
+
+pub count_at-at-requires-clause-x_lt_d : goal.count_at-at-requires-clause-x_lt_d
+count_at-at-requires-clause-x_lt_d c =
+    let i = c.loop-stack.stack-index in
+    let k : i < c.args.m = omega (arith, many c.args.stacks.now c.args.m c.requires.counting.fronts) in
+    rw (front_is c.args.stacks.now c.args.m i k) (c.requires.counting.inside i k)
+
+pub count_at-at-requires-clause-x_in_bounds : goal.count_at-at-requires-clause-x_in_bounds
+count_at-at-requires-clause-x_in_bounds c =
+    let i = c.loop-stack.stack-index in
+    let t = c.loop-stack.invariant in
+    let k : i < c.args.m = omega (arith, many c.args.stacks.now c.args.m c.requires.counting.fronts) in
+    rw (front_is c.args.stacks.now c.args.m i k, t.flag.rest 3 refl)
+    (omega (arith, taken_room (rw (slice_next i c.args.m (front c.args.stacks.now) k c.requires.counting.fronts) at t.gathering), c.requires.counting.touches, column_length link_column 0 c.args.links.now, t.link.long))
+
+pub loop-stack-preserved : goal.loop-stack-preserved
+loop-stack-preserved c =
+    let i = c.loop-stack.stack-index in
+    let t = c.loop-stack.invariant in
+    let g = c.requires.counting in
+    let e = c.count_at-at.ensures in
+    let k : i < c.args.m = omega (arith, many c.args.stacks.now c.args.m g.fronts) in
     record {
-      tabled = record { ends = c.requires.counting.tables.ends; adjacent = c.requires.counting.tables.adjacent; long = c.requires.counting.tables.long; points = c.requires.counting.tables.points; sats = c.requires.counting.tables.sats; hots = keep_length false c.loop-i.invariant.2 3 ∙ c.requires.counting.tables.hots; frees = keep_length false c.loop-i.invariant.2 4 ∙ c.requires.counting.tables.frees };
-      x_lt_d = (rw c.stack-x.ensures ((c.requires.counting.inside c.loop-i.i (omega (arith, c.loop-i-test.true, c.loop-i.invariant.0)))), c.loop-i.invariant.2.rows, c.loop-i.invariant.3.rows);
-      x_in_bounds = rw (c.stack-x.ensures, (c.loop-i.invariant.2.rest 3 refl)) (omega (arith, taken_room ((rw (slice_next c.loop-i.i c.args.m (front c.args.stacks.now) c.loop-i-test.true c.requires.counting.fronts) at (c.loop-i.invariant.1))), c.requires.counting.touches, column_length 0 0 c.args.links.now, c.loop-i.invariant.3.long));
+      gathering = gathering_turn (rw (slice_next i c.args.m (front c.args.stacks.now) k g.fronts) at t.gathering) (keep_length e.1 4) (keep_length e.2 0) (keep_length e.2 1)
+          (omega (arith, g.tables.points (get_or (front c.args.stacks.now) i 0) (g.inside i k), t.gathering.same, g.tables.frees))
+          (rw (← front_is c.args.stacks.now c.args.m i k, ← t.flag.rest 3 refl) e.0);
+      flag = keep_then t.flag e.1;
+      link = keep_then t.link e.2;
     }
-
-pub overflow_add-i : goal.overflow_add-i
-overflow_add-i c = omega (arith, c.loop-i-test.true, c.loop-i.invariant.0, c.ranges.m)
-
-pub loop-i-smaller : goal.loop-i-smaller
-loop-i-smaller c = omega (arith, c.loop-i-test.true, c.loop-i.invariant.0)
-
-pub loop-i-preserved : goal.loop-i-preserved
-loop-i-preserved c =
-    (omega (arith, c.loop-i-test.true, c.loop-i.invariant.0), gathering_turn ((rw (slice_next c.loop-i.i c.args.m (front c.args.stacks.now) c.loop-i-test.true c.requires.counting.fronts) at (c.loop-i.invariant.1))) (keep_length false c.count_at-at.ensures.1 4) (keep_length 0 c.count_at-at.ensures.2 0) (keep_length 0 c.count_at-at.ensures.2 1) (omega (arith, c.requires.counting.tables.points ((get_or (front c.args.stacks.now) c.loop-i.i 0)) ((c.requires.counting.inside c.loop-i.i (omega (arith, c.loop-i-test.true, c.loop-i.invariant.0)))), c.loop-i.invariant.1.same, c.requires.counting.tables.frees)) (rw (← c.stack-x.ensures, ← (c.loop-i.invariant.2.rest 3 refl)) c.count_at-at.ensures.0), keep_then false c.loop-i.invariant.2 c.count_at-at.ensures.1, keep_then 0 c.loop-i.invariant.3 c.count_at-at.ensures.2)
-
-pub shape_of-flags : goal.shape_of-flags
-shape_of-flags c = c.loop-i.invariant.2.long
-
-pub shape_of-links : goal.shape_of-links
-shape_of-links c = c.loop-i.invariant.3.long
 
 pub returns : goal.returns
 returns c =
-    (gathered (rw (let q : c.loop-i.i ≡ c.args.m = omega (arith, c.loop-i-test.false, c.loop-i.invariant.0) in q, slice_empty c.args.m (front c.args.stacks.now)) at (c.loop-i.invariant.1)), c.loop-i.invariant.2, c.loop-i.invariant.3)
+    let q : c.loop-stack.stack-index ≡ c.args.m = omega (arith, many c.args.stacks.now c.args.m c.requires.counting.fronts) in
+    (gathered (rw (q, slice_empty c.args.m (front c.args.stacks.now)) at c.loop-stack.invariant.gathering), c.loop-stack.invariant.flag, c.loop-stack.invariant.link)

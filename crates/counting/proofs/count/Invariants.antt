@@ -1,5 +1,4 @@
 -- `counting::count` meets its contract. The invariant: what is listed, and what is to be listed at the detectors from i on, is the answer.
-use Prim.Native.Nat.{◌-◌, ◌≤◌}
 use mathlib.Core.List.{[], ◌∷◌}
 use lib.ListN.{take}
 use lib.Seq.{slice}
@@ -7,9 +6,9 @@ use Rattle.cells.specs.Tables.{parents, hots, frees, front, touched, cnt, SameFl
 use Rattle.counting.proofs.Laws.{Gathering}
 use Rattle.counting.proofs.count.Given as goal
 
-abbrev pub invariant-loop-i : goal.invariant-loop-i
-invariant-loop-i l = (l.i ≤ l.m) × Gathering l.d l.edge_u l.edge_v (parents l.tree) l.sat (hots l.initial.flags) (take l.m (front l.stacks)) (frees l.initial.flags) (touched l.initial.links) (cnt l.initial.links) (frees l.flags) (touched l.links) (cnt l.links) l.at (slice l.i l.m (front l.stacks))
-    × SameFlags (4 ∷ []) l.initial.flags l.flags × SameLinks (0 ∷ 1 ∷ []) l.initial.links l.links
-
-abbrev pub decreases-loop-i : goal.decreases-loop-i
-decreases-loop-i l = l.m - l.i
+abbrev pub invariant-loop-stack : goal.invariant-loop-stack
+invariant-loop-stack l = record {
+  gathering : Gathering l.d l.edge_u l.edge_v (parents l.tree) l.sat (hots l.initial.flags) (take l.m (front l.stacks)) (frees l.initial.flags) (touched l.initial.links) (cnt l.initial.links) (frees l.flags) (touched l.links) (cnt l.links) l.at (slice l.stack-index l.m (front l.stacks));
+  flag : SameFlags (4 ∷ []) l.initial.flags l.flags;
+  link : SameLinks (0 ∷ 1 ∷ []) l.initial.links l.links;
+}

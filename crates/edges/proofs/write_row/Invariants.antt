@@ -1,12 +1,9 @@
--- `edges::write_row`: the bits still to set, set here, give what all give in the zero row.
-use Prim.Native.Nat.{◌-◌}
+-- `edges::write_row`: the bits of the entries so far are set in the zero row.
 use mathlib.Core.Path.{◌≡◌}
-use lib.ListN.{length, drop}
+use lib.ListN.{length, replicate, take}
+use Rattle.bits.specs.Rows.{words}
 use Rattle.edges.proofs.Rows.{set_all}
 use Rattle.edges.proofs.write_row.Given as goal
 
-abbrev pub invariant-loop-i : goal.invariant-loop-i
-invariant-loop-i l = (length l.row ≡ length l.initial.row) × (set_all l.row (drop l.i l.list) ≡ set_all l.initial.row l.list)
-
-abbrev pub decreases-loop-i : goal.decreases-loop-i
-decreases-loop-i l = length l.list - l.i
+abbrev pub invariant-loop-j : goal.invariant-loop-j
+invariant-loop-j l = (length l.row ≡ words l.observables) × (l.row ≡ set_all (replicate (words l.observables) 0) (take l.j-index l.list))

@@ -1,5 +1,4 @@
 -- `first_stuck::stuck` meets its contract. Assumes nothing.
-use Prim.Native.Nat.{◌-◌, ◌≤◌}
 use mathlib.Core.Path.{◌≡◌}
 use lib.ListN.{take}
 use lib.Seq.{slice}
@@ -8,7 +7,4 @@ use Rattle.first_stuck.specs.FirstStuck.{first_shut}
 use Rattle.first_stuck.proofs.stuck.Given as goal
 
 abbrev pub invariant-loop-i : goal.invariant-loop-i
-invariant-loop-i l = (l.i ≤ l.a) × (first_shut (frees l.flags) (slice l.i l.a (active l.stacks)) ≡ first_shut (frees l.flags) (take l.a (active l.stacks)))
-
-abbrev pub decreases-loop-i : goal.decreases-loop-i
-decreases-loop-i l = l.a - l.i
+invariant-loop-i l = first_shut (frees l.flags) (slice l.i l.a (active l.stacks)) ≡ first_shut (frees l.flags) (take l.a (active l.stacks))

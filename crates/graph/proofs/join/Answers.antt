@@ -1,81 +1,42 @@
 -- `graph::join` meets its contract: refused, skipped, too large, or an edge.
-use mathlib.Core.Path.{sym, ap, ◌∙◌}
-use mathlib.Core.Bool.{true}
+use mathlib.Core.Path.{sym}
 use native.Mathlib.Omega.{arith}
 use lib.Ieee.{of_bits}
-use Rattle.dem.specs.Model.{list_fits}
-use Rattle.edges.specs.Tables.{slices}
-use Rattle.graph.proofs.Joining.{is_refused, is_zero_lem, is_empty_lem, is_large, is_edge, first_below, row_fits, row_is_lent}
+use Rattle.std.proofs.lemmas.Result.{err_from_is_err_and}
+use Rattle.graph.proofs.Joining.{Passed, is_refused, skips_zero, skips_empty, is_large, is_edge, first_below, row_fits}
 use Rattle.graph.proofs.join.Goals as goal
 
-pub returns-in-Refused : goal.returns-in-Refused
-returns-in-Refused c =
-    let t = (slices c.args.edge_u.now c.args.edge_v.now c.args.edge_weight.now c.args.edge_obs.now c.args.edge_p.now) in
-    (is_refused c.args.detectors c.args.observables c.args.i c.args.count c.args.head c.args.place c.args.component_detectors.now c.args.component_observables.now c.args.entries.now t _ _ (sym c.check_mechanism-checked.ensures ∙ c.in-Refused.is), tt)
+pub returns-in_err-check_mechanism : goal.returns-in_err-check_mechanism
+returns-in_err-check_mechanism c =
+    let e = err_from_is_err_and c.from_residual.result c.from_residual.ensures.1 in
+    rw (e.1, e.2) (is_refused _ _ _ _ _ _ _ _ (sym c.in_err-check_mechanism.ensures), tt)
 
 pub returns-then-p : goal.returns-then-p
 unfolding of_bits
 returns-then-p c =
-    let t = (slices c.args.edge_u.now c.args.edge_v.now c.args.edge_weight.now c.args.edge_obs.now c.args.edge_p.now) in
-    let fits = (sym c.check_mechanism-checked.ensures ∙ c.in_default.is) in
-    (is_zero_lem c.args.detectors c.args.observables c.args.i c.args.count c.args.head c.args.place c.args.component_detectors.now c.args.component_observables.now c.args.entries.now t fits c.if-p.true, c.requires.3)
+    let passed : Passed _ _ _ _ _ _ _ _ = record { fits = sym c.in_ok-check_mechanism.ensures; inside = c.requires.0 } in
+    (skips_zero passed _ _ c.if-p.true, c.requires.3)
 
 pub returns-then-d-eq0 : goal.returns-then-d-eq0
 unfolding of_bits
 returns-then-d-eq0 c =
-    let t = (slices c.args.edge_u.now c.args.edge_v.now c.args.edge_weight.now c.args.edge_obs.now c.args.edge_p.now) in
-    let fits = (sym c.check_mechanism-checked.ensures ∙ c.in_default.is) in
-    (is_empty_lem c.args.detectors c.args.observables c.args.i c.args.count c.args.head c.args.place c.args.component_detectors.now c.args.component_observables.now c.args.entries.now t fits c.if-p.false c.if-d-eq0.true, c.requires.3)
+    let passed : Passed _ _ _ _ _ _ _ _ = record { fits = sym c.in_ok-check_mechanism.ensures; inside = c.requires.0 } in
+    (skips_empty passed _ _ c.if-p.false c.if-d-eq0.true, c.requires.3)
 
 pub returns-then-d-gt2 : goal.returns-then-d-gt2
 unfolding of_bits
 returns-then-d-gt2 c =
-    let t = (slices c.args.edge_u.now c.args.edge_v.now c.args.edge_weight.now c.args.edge_obs.now c.args.edge_p.now) in
-    let fits = (sym c.check_mechanism-checked.ensures ∙ c.in_default.is) in
-    (is_large c.args.detectors c.args.observables c.args.i c.args.count c.args.head c.args.place c.args.component_detectors.now c.args.component_observables.now c.args.entries.now t c.requires.0 _ fits c.if-p.false c.if-d-gt2.true, tt)
-
-pub overflow_add-from : goal.overflow_add-from
-overflow_add-from c = omega (arith, c.requires.0.entries, c.well_formed.1.1.1.1.1.1.1.0)
-
-pub overflow_add-to : goal.overflow_add-to
-overflow_add-to c = omega (arith, c.requires.0.entries, c.well_formed.1.1.1.1.1.1.1.0)
-
-pub offset_bounds-entries-at : goal.offset_bounds-entries-at
-offset_bounds-entries-at c = omega (arith, c.requires.0.entries, c.well_formed.1.1.1.1.1.1.1.0, c.if-d-eq0.false)
-
-pub offset_bounds-entries-from : goal.offset_bounds-entries-from
-offset_bounds-entries-from c = omega (arith, c.requires.0.entries, c.well_formed.1.1.1.1.1.1.1.0)
+    let passed : Passed _ _ _ _ _ _ _ _ = record { fits = sym c.in_ok-check_mechanism.ensures; inside = c.requires.0 } in
+    (is_large passed _ _ c.if-p.false _ c.if-d-gt2.true, tt)
 
 pub share-n-requires : goal.share-n-requires
 share-n-requires c =
-    let t = (slices c.args.edge_u.now c.args.edge_v.now c.args.edge_weight.now c.args.edge_obs.now c.args.edge_p.now) in
-    let fits = (sym c.check_mechanism-checked.ensures ∙ c.in_default.is) in
-    (let k = first_below c.args.detectors c.args.observables c.args.i c.args.count c.args.head c.args.place c.args.component_detectors.now c.args.component_observables.now c.args.entries.now t c.requires.0 fits (omega (arith, c.if-d-eq0.false)) in omega (arith, k, c.requires.1), sym (ap (list_fits c.args.observables) (row_is_lent c.args.detectors c.args.observables c.args.i c.args.count c.args.head c.args.place c.args.component_detectors.now c.args.component_observables.now c.args.entries.now t)) ∙ row_fits c.args.detectors c.args.observables c.args.i c.args.count c.args.head c.args.place c.args.component_detectors.now c.args.component_observables.now c.args.entries.now t fits, c.requires.2, c.requires.3)
-
-pub shape_of-edge_u : goal.shape_of-edge_u
-shape_of-edge_u c = c.share-n.auto.edge_u
-
-pub shape_of-edge_v : goal.shape_of-edge_v
-shape_of-edge_v c = c.share-n.auto.edge_v
-
-pub shape_of-edge_weight : goal.shape_of-edge_weight
-shape_of-edge_weight c = c.share-n.auto.edge_weight
-
-pub shape_of-edge_obs : goal.shape_of-edge_obs
-shape_of-edge_obs c = c.share-n.auto.edge_obs
-
-pub shape_of-edge_p : goal.shape_of-edge_p
-shape_of-edge_p c = c.share-n.auto.edge_p
-
-pub shape_of-first : goal.shape_of-first
-shape_of-first c = c.share-n.auto.first
-
-pub shape_of-next : goal.shape_of-next
-shape_of-next c = c.share-n.auto.next
+    let passed : Passed _ _ _ _ _ _ _ _ = record { fits = sym c.in_ok-check_mechanism.ensures; inside = c.requires.0 } in
+    let below = first_below passed (omega arith) in
+    (omega (arith, below), row_fits passed, c.requires.2, c.requires.3)
 
 pub returns : goal.returns
 unfolding of_bits
 returns c =
-    let t = (slices c.args.edge_u.now c.args.edge_v.now c.args.edge_weight.now c.args.edge_obs.now c.args.edge_p.now) in
-    let fits = (sym c.check_mechanism-checked.ensures ∙ c.in_default.is) in
-    (is_edge c.args.detectors c.args.observables c.args.i c.args.count c.args.head c.args.place c.args.component_detectors.now c.args.component_observables.now c.args.entries.now t c.requires.0 c.second_end-v.result c.share-n.result _ fits c.if-p.false (omega (arith, c.if-d-eq0.false)) (omega (arith, c.if-d-gt2.false)) c.second_end-v.ensures c.share-n.ensures.0, c.share-n.ensures.1)
+    let passed : Passed _ _ _ _ _ _ _ _ = record { fits = sym c.in_ok-check_mechanism.ensures; inside = c.requires.0 } in
+    (is_edge passed _ _ c.if-p.false _ _ _ (omega arith) (omega arith) c.second_end-v.ensures c.share-n.ensures.0, c.share-n.ensures.1)

@@ -1,54 +1,47 @@
-use Prim.Native.Nat.{◌-◌, ◌+◌}
-use mathlib.Core.Path.{◌≡◌, refl, sym, ap, ◌∙◌}
+use Prim.Native.Nat.{ℕ, ◌<◌}
 use native.Mathlib.Omega.{arith}
-use lib.Seq.{slice}
-use lib.Ieee.{Float, nan_bits, of_bits}
-use Rattle.columns.proofs.Columns.{column_length}
-use Rattle.cells.specs.Tables.{touched, cnt}
-use Rattle.growing.specs.Growing.{least_in, lesser_of}
-use Rattle.growing.proofs.Laws.{least_turn, least_end}
+use mathlib.Core.Path.{◌≡◌, refl, sym, ◌∙◌}
+use mathlib.Core.List.{List, [], ◌∷◌}
+use lib.ListN.{length, get_or, take}
+use lib.Ieee.{of_bits}
+use lib.Seq.{get_or-take, length-take-le}
+use Rattle.cells.specs.declared.Link.{Link}
+use Rattle.cells.specs.Tables.{touched, cnt, link_column, SameLinks}
+use Rattle.columns.proofs.Columns.{column_length, keep_none, keep_more}
+use Rattle.growing.specs.Growing.{Growing}
+use Rattle.growing.proofs.Laws.{empty, edge_is, count_is, edge_in, least_turn, least_end}
 use Rattle.growing.proofs.least.Goals as goal
 
-pub float_from_bits-b : goal.float_from_bits-b
-unfolding nan_bits
-float_from_bits-b c = tt
+same : (links : List Link) → SameLinks (2 ∷ []) links links
+same links = keep_more (2 ∷ []) refl (keep_none links)
 
-pub loop-i-init : goal.loop-i-init
+many : {m E : ℕ} (links : List Link) → Growing (touched links) (cnt links) m E → length (take m links) ≡ m
+many {m} links g = length-take-le m links (omega (arith, g.touches, column_length link_column 0 links))
+
+inside : {m E : ℕ} (links : List Link) → Growing (touched links) (cnt links) m E → (i : ℕ) → i < length (take m links) → (get_or (take m links) i empty).touched < E
+inside {m} links g i h =
+    let k : i < m = omega (arith, many links g) in
+    rw (get_or-take m links i empty k) (edge_in (same links) i g k)
+
+pub loop-link-init : goal.loop-link-init
 unfolding of_bits
-loop-i-init c = (omega arith, refl)
-
-pub link-x-requires : goal.link-x-requires
-link-x-requires c = (omega (arith, c.requires.growing.touches, column_length 0 0 c.args.links.now), omega arith)
-
-pub overflow_cast-x : goal.overflow_cast-x
-overflow_cast-x c = omega (arith, c.requires.growing.inside c.loop-i.i (omega arith), c.link-x.ensures, c.requires.growth_len)
-
-pub link-n-requires : goal.link-n-requires
-link-n-requires c = (omega (arith, c.requires.growing.touches, column_length 0 0 c.args.links.now), omega arith)
-
-pub offset_bounds-edge_weight-x : goal.offset_bounds-edge_weight-x
-offset_bounds-edge_weight-x c = omega (arith, c.requires.growing.inside c.loop-i.i (omega arith), c.link-x.ensures, c.requires.growth_len)
+loop-link-init c = refl
 
 pub bounds-edge_weight-x : goal.bounds-edge_weight-x
-bounds-edge_weight-x c = omega (arith, c.requires.growing.inside c.loop-i.i (omega arith), c.link-x.ensures, c.requires.growth_len)
-
-pub offset_bounds-growth-x : goal.offset_bounds-growth-x
-offset_bounds-growth-x c = omega (arith, c.requires.growing.inside c.loop-i.i (omega arith), c.link-x.ensures, c.requires.growth_len)
+bounds-edge_weight-x c = inside c.args.links.now c.requires.growing c.loop-link.link-index c.loop-link-test.true
 
 pub bounds-growth-x : goal.bounds-growth-x
-bounds-growth-x c = omega (arith, c.requires.growing.inside c.loop-i.i (omega arith), c.link-x.ensures, c.requires.growth_len)
+bounds-growth-x c = rw c.requires.growth_len (inside c.args.links.now c.requires.growing c.loop-link.link-index c.loop-link-test.true)
 
-pub step_at-s-requires : goal.step_at-s-requires
-step_at-s-requires c = tt
-
-pub lesser-b-requires : goal.lesser-b-requires
-lesser-b-requires c = tt
-
-pub overflow_add-i : goal.overflow_add-i
-overflow_add-i c = omega (arith, c.ranges.m)
-
-pub loop-i-preserved : goal.loop-i-preserved
-loop-i-preserved c = (omega arith, ap (λ (x : Float). least_in c.args.edge_weight.now c.args.growth.now x (slice (c.loop-i.i + 1) c.args.m (touched c.args.links.now)) (slice (c.loop-i.i + 1) c.args.m (cnt c.args.links.now))) (c.lesser-b.ensures ∙ ap (lesser_of c.loop-i.b) (rw (← c.link-x.ensures, ← c.link-n.ensures) c.step_at-s.ensures)) ∙ sym (least_turn (touched c.args.links.now) (cnt c.args.links.now) c.loop-i.i c.args.m (omega arith) c.requires.growing.touches c.requires.growing.cnts c.args.edge_weight.now c.args.growth.now c.loop-i.b) ∙ c.loop-i.invariant.1)
+pub loop-link-preserved : goal.loop-link-preserved
+loop-link-preserved c =
+    let i = c.loop-link.link-index in
+    let links = c.args.links.now in
+    let k : i < c.args.m = omega (arith, many links c.requires.growing) in
+    rw (c.lesser-b.ensures, c.step_at.ensures, get_or-take c.args.m links i empty k, ← edge_is (same links) i, ← count_is (same links) i)
+    (sym (least_turn (touched links) (cnt links) i c.args.m k c.requires.growing.touches c.requires.growing.cnts c.args.edge_weight.now c.args.growth.now c.loop-link.b) ∙ c.loop-link.invariant)
 
 pub returns : goal.returns
-returns c = let q : c.loop-i.i ≡ c.args.m = omega arith in sym (least_end c.args.edge_weight.now c.args.growth.now c.loop-i.b (touched c.args.links.now) (cnt c.args.links.now) c.args.m) ∙ (rw q at c.loop-i.invariant.1)
+returns c =
+    let q : c.loop-link.link-index ≡ c.args.m = omega (arith, many c.args.links.now c.requires.growing) in
+    sym (least_end c.args.edge_weight.now c.args.growth.now c.loop-link.b (touched c.args.links.now) (cnt c.args.links.now) c.args.m) ∙ (rw q at c.loop-link.invariant)

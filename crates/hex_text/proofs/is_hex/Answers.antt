@@ -1,27 +1,18 @@
-use Prim.Native.Nat.{◌-◌}
-use mathlib.Core.Path.{sym, ◌∙◌}
-use borrow.Author.Tests.{eq-eqb, ne_eqb, not-true, not-false}
-use Rattle.hex_text.specs.Hex.{is_hex}
-use Rattle.hex_text.proofs.Bytes.{digits_next, digits_end}
-use mathlib.Core.Path.{ap}
-use mathlib.Core.Bool.{not}
+-- `hex_text::is_hex`: in pairs, then digits.
+use Rattle.std.proofs.Common.{◌∙◌, sym, rules, tests}
+use Rattle.std.proofs.lemmas.Iterator.{YieldsList-from_slice}
+use Rattle.std.proofs.lemmas.Iterator.Search.{all_from_yields_List}
+use borrow.Author.Tests.{eq-eqb, ne_eqb}
+use Rattle.hex_text.specs.Hex.{is_digit, is_hex}
+use Rattle.hex_text.proofs.Bytes.{digits_all}
 use Rattle.hex_text.proofs.is_hex.Goals as goal
 
-pub returns-then-line-ne0 : goal.returns-then-line-ne0
+pub returns-then-line-eq0 : goal.returns-then-line-eq0
 unfolding is_hex
-returns-then-line-ne0 c = simp (ne_eqb _ _ c.if-line-ne0.true)
+returns-then-line-eq0 c =
+    let line = c.args.line.now in
+    rw (eq-eqb _ _ c.if-line-eq0.true) (all_from_yields_List is_digit _ _ _ c.all.ensures.ran (YieldsList-from_slice line cc) (λ x b q k. search (rules, tests)) ∙ sym (digits_all line))
 
-pub loop-i-init : goal.loop-i-init
+pub returns-else-line-eq0 : goal.returns-else-line-eq0
 unfolding is_hex
-loop-i-init c = simp (eq-eqb _ _ c.if-line-ne0.false)
-
-pub returns-then-not-is_digit : goal.returns-then-not-is_digit
-returns-then-not-is_digit c =
-    rw (← c.loop-i.invariant, (digits_next c.args.line.now c.loop-i.i c.loop-i-test.true), ← c.is_digit.ensures, not-true c.is_digit.result (ap not c.if-not-is_digit.true))
-
-pub loop-i-preserved : goal.loop-i-preserved
-loop-i-preserved c =
-    rw (← c.loop-i.invariant, (digits_next c.args.line.now c.loop-i.i c.loop-i-test.true), ← c.is_digit.ensures, not-false c.is_digit.result (ap not c.if-not-is_digit.false))
-
-pub returns : goal.returns
-returns c = sym (digits_end c.args.line.now c.loop-i.i c.loop-i-test.false) ∙ c.loop-i.invariant
+returns-else-line-eq0 c = rw (ne_eqb _ _ c.if-line-eq0.false)

@@ -1,22 +1,13 @@
-use Prim.Native.Nat.{◌-◌}
-use mathlib.Core.Path.{refl, sym, ◌∙◌}
-use native.Mathlib.Omega.{arith}
+use Rattle.std.proofs.Common.{◌≡◌, ◌+◌, ◌-◌, ◌*◌, sym, ◌∙◌, arith}
 use Rattle.hex_text.proofs.Runs.{byte_turn, byte_end}
 use Rattle.hex_text.proofs.write_number.Goals as goal
 
-pub loop-left-init : goal.loop-left-init
-loop-left-init c = (omega arith, refl, refl, refl)
-
-pub overflow_shr-b : goal.overflow_shr-b
-overflow_shr-b c = omega (arith, c.requires)
-
-pub loop-left-preserved : goal.loop-left-preserved
-loop-left-preserved c = (
-  omega arith,
-  c.write_byte.auto.out ∙ c.loop-left.invariant.1,
-  omega arith,
-  rw c.write_byte.ensures (sym (byte_turn c.loop-left.left c.args.x c.loop-left.to c.loop-left.out c.loop-left-test.true) ∙ c.loop-left.invariant.3),
-)
+pub loop-i-preserved : goal.loop-i-preserved
+loop-i-preserved c =
+    let at = c.args.at + 2 * c.loop-i.i in
+    let next : c.args.at + 2 * (c.loop-i.i + 1) ≡ at + 2 = omega arith in
+    rw (next, c.write_byte.ensures) (sym (byte_turn c.args.k c.loop-i.i c.args.x at c.loop-i.out c.loop-i-test.true) ∙ c.loop-i.invariant)
 
 pub returns : goal.returns
-returns c = sym (byte_end c.loop-left.left c.args.x c.loop-left.to c.loop-left.out c.loop-left-test.false) ∙ c.loop-left.invariant.3
+returns c =
+    sym (byte_end (c.args.k - c.loop-i.i) c.args.x (c.args.at + 2 * c.loop-i.i) c.loop-i.out (omega arith)) ∙ c.loop-i.invariant

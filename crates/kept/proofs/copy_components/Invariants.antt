@@ -1,13 +1,11 @@
 -- `kept::copy_components`: the first i mechanisms are done, and the next part begins at their sum.
-use Prim.Native.Nat.{◌-◌, ◌≤◌}
-use mathlib.Core.Path.{◌≡◌}
-use lib.ListN.{length, take}
+use Rattle.std.proofs.Common.{◌≡◌, take}
 use Rattle.dem.specs.Positions.{total}
 use Rattle.kept.proofs.Copying.{Pasting}
 use Rattle.kept.proofs.copy_components.Given as goal
 
 abbrev pub invariant-loop-i : goal.invariant-loop-i
-invariant-loop-i l = (l.i ≤ l.mechanisms) × (length l.out ≡ length l.initial.out) × (l.end ≡ total (take l.i l.component_counts)) × Pasting l.detector_counts (λ k. total (take k l.component_counts)) l.counts l.initial.out l.i l.at l.out
-
-abbrev pub decreases-loop-i : goal.decreases-loop-i
-decreases-loop-i l = l.mechanisms - l.i
+invariant-loop-i l = record {
+  here : l.end ≡ total (take l.i l.component_counts);
+  done : Pasting l.detector_counts (λ k. total (take k l.component_counts)) l.counts l.initial.out l.i l.at l.out;
+}

@@ -1,60 +1,26 @@
-use Prim.Native.Nat.{◌-◌}
-use mathlib.Core.Path.{◌≡◌, refl, ap}
-use native.Mathlib.Omega.{arith}
-use borrow.Author.Tests.{not-true, not-false}
-use Rattle.dem.specs.Model.{symptoms_fit, symptom_fits}
+use Rattle.std.proofs.Common.{◌≡◌, ◌+◌, ◌-◌, arith}
+use Rattle.dem.specs.Model.{symptoms_fit}
 use Rattle.dem.specs.Tables.{components_of}
 use Rattle.dem.proofs.Checks.{fit_turn, first_inside, others_inside}
-use mathlib.Core.Bool.{not}
 use Rattle.mechanism_check.proofs.components_fit.Goals as goal
-
-pub loop-left-init : goal.loop-left-init
-loop-left-init c = (c.requires, refl)
-
-pub bounds-component_detectors-component : goal.bounds-component_detectors-component
-bounds-component_detectors-component c = omega (arith, c.loop-left.invariant.0.detectors)
-
-pub overflow_cast-d : goal.overflow_cast-d
-overflow_cast-d c =
-    let inside = first_inside c.args.component_detectors.now c.args.component_observables.now c.args.entries.now c.loop-left.left c.loop-left.component c.loop-left.entry c.loop-left-test.true c.loop-left.invariant.0 in
-    omega (arith, inside)
-
-pub bounds-component_observables-component : goal.bounds-component_observables-component
-bounds-component_observables-component c = omega (arith, c.loop-left.invariant.0.observables)
-
-pub overflow_cast-o : goal.overflow_cast-o
-overflow_cast-o c =
-    let inside = first_inside c.args.component_detectors.now c.args.component_observables.now c.args.entries.now c.loop-left.left c.loop-left.component c.loop-left.entry c.loop-left-test.true c.loop-left.invariant.0 in
-    omega (arith, inside)
-
-pub overflow_add-component : goal.overflow_add-component
-overflow_add-component c = omega (arith, c.loop-left.invariant.0.detectors)
-
-pub overflow_add-entry : goal.overflow_add-entry
-overflow_add-entry c =
-    let inside = first_inside c.args.component_detectors.now c.args.component_observables.now c.args.entries.now c.loop-left.left c.loop-left.component c.loop-left.entry c.loop-left-test.true c.loop-left.invariant.0 in
-    omega (arith, inside)
-
-pub overflow_add-entry-in-loop-left : goal.overflow_add-entry-in-loop-left
-overflow_add-entry-in-loop-left c =
-    let inside = first_inside c.args.component_detectors.now c.args.component_observables.now c.args.entries.now c.loop-left.left c.loop-left.component c.loop-left.entry c.loop-left-test.true c.loop-left.invariant.0 in
-    omega (arith, inside)
 
 pub symptom_fits-requires : goal.symptom_fits-requires
 symptom_fits-requires c =
-    let inside = first_inside c.args.component_detectors.now c.args.component_observables.now c.args.entries.now c.loop-left.left c.loop-left.component c.loop-left.entry c.loop-left-test.true c.loop-left.invariant.0 in
-    omega (arith, inside)
+    omega (arith, first_inside c.args.component_detectors.now c.args.component_observables.now c.args.entries.now _ c.loop-component.component c.loop-component.entry (omega arith) c.loop-component.invariant.inside)
 
-pub returns-then-not-symptom_fits : goal.returns-then-not-symptom_fits
-returns-then-not-symptom_fits c =
-    let turn = fit_turn c.args.component_detectors.now c.args.component_observables.now c.args.entries.now c.args.detectors c.args.observables c.loop-left.left c.loop-left.component c.loop-left.entry c.loop-left-test.true in
-    rw (← c.loop-left.invariant.1, turn, ← c.symptom_fits.ensures, not-true c.symptom_fits.result (ap not c.if-not-symptom_fits.true))
-
-pub loop-left-preserved : goal.loop-left-preserved
-loop-left-preserved c =
-    let turn = fit_turn c.args.component_detectors.now c.args.component_observables.now c.args.entries.now c.args.detectors c.args.observables c.loop-left.left c.loop-left.component c.loop-left.entry c.loop-left-test.true in
-    (others_inside c.args.component_detectors.now c.args.component_observables.now c.args.entries.now c.loop-left.left c.loop-left.component c.loop-left.entry c.loop-left-test.true c.loop-left.invariant.0, rw (← c.loop-left.invariant.1, turn, ← c.symptom_fits.ensures, not-false c.symptom_fits.result (ap not c.if-not-symptom_fits.false)))
+pub loop-component-preserved : goal.loop-component-preserved
+loop-component-preserved c =
+    let k = c.loop-component.component in
+    let left = c.args.place.component + c.args.n - k in
+    let one : c.args.place.component + c.args.n - (k + 1) ≡ left - 1 = omega arith in
+    let turn = fit_turn c.args.component_detectors.now c.args.component_observables.now c.args.entries.now c.args.detectors c.args.observables left k c.loop-component.entry (omega arith) in
+    rw one (record {
+      inside = others_inside c.args.component_detectors.now c.args.component_observables.now c.args.entries.now left k c.loop-component.entry (omega arith) c.loop-component.invariant.inside;
+      left = rw (← c.loop-component.invariant.left, turn, ← c.symptom_fits.ensures, c.if-not-symptom_fits.false);
+    })
 
 pub returns : goal.returns
 unfolding symptoms_fit components_of
-returns c = let z : c.loop-left.left ≡ 0 = omega arith in (rw z at c.loop-left.invariant.1)
+returns c =
+    let none : c.args.place.component + c.args.n - c.loop-component.component ≡ 0 = omega arith in
+    rw none at c.loop-component.invariant.left

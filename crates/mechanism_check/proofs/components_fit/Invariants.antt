@@ -1,16 +1,13 @@
--- `mechanism_check::components_fit`: the components from here on fit just where all do.
-use Prim.Native.Nat.{◌-◌}
-use mathlib.Core.Path.{◌≡◌}
-use lib.ListN.{drop}
+-- `mechanism_check::components_fit`: the components left lie inside the tables, and they fit just where all of them do.
+use Rattle.std.proofs.Common.{◌≡◌, ◌+◌, ◌-◌, drop}
 use Rattle.dem.specs.Model.{symptoms_fit}
 use Rattle.dem.specs.Tables.{components_of}
 use Rattle.dem.specs.Positions.{Within}
 use Rattle.mechanism_check.proofs.components_fit.Given as goal
 
-abbrev pub invariant-loop-left : goal.invariant-loop-left
-invariant-loop-left l = Within l.left l.component l.entry l.component_detectors l.component_observables l.entries
-    × (symptoms_fit l.detectors l.observables (components_of l.left (drop l.component l.component_detectors) (drop l.component l.component_observables) (drop l.entry l.entries))
-    ≡ symptoms_fit l.detectors l.observables (components_of l.n (drop l.initial.component l.component_detectors) (drop l.initial.component l.component_observables) (drop l.initial.entry l.entries)))
-
-abbrev pub decreases-loop-left : goal.decreases-loop-left
-decreases-loop-left l = l.left
+abbrev pub invariant-loop-component : goal.invariant-loop-component
+invariant-loop-component l = record {
+  inside : Within (l.fn.place.component + l.n - l.component) l.component l.entry l.component_detectors l.component_observables l.entries;
+  left : symptoms_fit l.detectors l.observables (components_of (l.fn.place.component + l.n - l.component) (drop l.component l.component_detectors) (drop l.component l.component_observables) (drop l.entry l.entries))
+      ≡ symptoms_fit l.detectors l.observables (components_of l.n (drop l.fn.place.component l.component_detectors) (drop l.fn.place.component l.component_observables) (drop l.fn.place.entry l.entries));
+}

@@ -1,5 +1,4 @@
 -- `peeling::peel_all` meets its contract. The invariant: to peel the clusters left from here is to peel them all from the entry. Assumes nothing.
-use Prim.Native.Nat.{◌-◌}
 use mathlib.Core.List.{[], ◌∷◌}
 use Rattle.forest.specs.Forest.{labels}
 use Rattle.cells.specs.Tables.{parents, lits, frees, defects, active, front, order_edge, order_parent, SameTree, SameFlags, SameStacks}
@@ -10,6 +9,3 @@ use Rattle.peeling.proofs.peel_all.Given as goal
 abbrev pub invariant-loop-i : goal.invariant-loop-i
 invariant-loop-i l = Peeling l.d l.edge_u l.edge_v l.sat (labels l.d (parents l.initial.tree)) (defects l.initial.stacks) l.defect_count (frees l.initial.flags) (lits l.initial.flags) (front l.initial.stacks) (active l.initial.stacks) (order_edge l.initial.stacks) (order_parent l.initial.stacks) l.initial.list l.i l.listed (frees l.flags) (lits l.flags) (front l.stacks) (active l.stacks) (order_edge l.stacks) (order_parent l.stacks) l.list
     × Same l.d (parents l.initial.tree) (parents l.tree) × SameTree (0 ∷ []) l.initial.tree l.tree × SameFlags (0 ∷ 4 ∷ []) l.initial.flags l.flags × SameStacks (2 ∷ 3 ∷ 4 ∷ 5 ∷ []) l.initial.stacks l.stacks
-
-abbrev pub decreases-loop-i : goal.decreases-loop-i
-decreases-loop-i l = l.defect_count - l.i

@@ -6,6 +6,3 @@ use Rattle.peeling.proofs.unwind.Given as goal
 
 abbrev pub invariant-loop-i : goal.invariant-loop-i
 invariant-loop-i l = Unwinding l.n (active l.stacks) (order_edge l.stacks) (order_parent l.stacks) (lits l.initial.flags) l.initial.list l.listed l.i l.at (lits l.flags) l.list × SameFlags (0 ∷ []) l.initial.flags l.flags
-
-abbrev pub decreases-loop-i : goal.decreases-loop-i
-decreases-loop-i l = l.i

@@ -1,46 +1,27 @@
 -- `reader::read_line`: the numbers, the tables, then the line.
-use Prim.Native.Nat.{◌-◌}
-use mathlib.Core.Path.{sym, ◌∙◌}
-use mathlib.Core.Bool.{true, false}
-use borrow.Author.Tests.{not-true, not-false}
-use Rattle.reader.specs.Columns.{columns_of}
+use Rattle.std.proofs.Common.{sym, ◌∙◌}
+use Rattle.std.proofs.lemmas.Result.{err_from_is_err_and}
 use Rattle.reader.proofs.Parts.{roomy_by}
-use Rattle.reader.proofs.Reading.{storable, over_read, short_read, refused_read, next_read}
-use mathlib.Core.Path.{ap}
-use mathlib.Core.Bool.{not}
+use Rattle.reader.proofs.Reading.{storable, short_read, refused_read, next_read}
 use Rattle.reader.proofs.read_line.Goals as goal
-
-pub returns-then-over : goal.returns-then-over
-returns-then-over c =
-    over_read c.args.line.now c.args.n (columns_of c.args.probability_bits.now c.args.counts.now c.args.entries.now c.args.shot.now) (sym c.over.ensures ∙ c.if-over.true)
 
 pub returns-then-not-long_enough : goal.returns-then-not-long_enough
 returns-then-not-long_enough c =
-    short_read c.args.line.now c.args.n (columns_of c.args.probability_bits.now c.args.counts.now c.args.entries.now c.args.shot.now) (sym c.over.ensures ∙ c.if-over.false) (roomy_by c.args.probability_bits.now c.args.counts.now c.args.entries.now c.args.shot.now c.long_enough.result false c.long_enough.ensures (not-true c.long_enough.result (ap not c.if-not-long_enough.true)))
+    let room = roomy_by c.args.probability_bits.now c.args.counts.now c.args.entries.now c.args.shot.now _ c.long_enough.ensures in
+    short_read c.args.line.now c.args.n _ (cc) (cc)
 
-pub next_line-answer-requires : goal.next_line-answer-requires
-next_line-answer-requires c = (sym c.over.ensures ∙ c.if-over.false)
+pub returns-in_err-next : goal.returns-in_err-next
+returns-in_err-next c =
+    let room = roomy_by c.args.probability_bits.now c.args.counts.now c.args.entries.now c.args.shot.now _ c.long_enough.ensures in
+    let p = err_from_is_err_and c.from_residual.result c.from_residual.ensures.1 in
+    rw (p.1, p.2) (refused_read c.args.line.now c.args.n _ (cc) (cc) c.in_err-next.field-0.0 (sym c.in_err-next.was ∙ c.next_line.ensures))
 
 pub store-requires : goal.store-requires
 store-requires c =
-    (storable c.args.n c.args.line.now (columns_of c.args.probability_bits.now c.args.counts.now c.args.entries.now c.args.shot.now) c.in-Next.next (sym c.over.ensures ∙ c.if-over.false) (roomy_by c.args.probability_bits.now c.args.counts.now c.args.entries.now c.args.shot.now c.long_enough.result true c.long_enough.ensures (not-false c.long_enough.result (ap not c.if-not-long_enough.false))) (sym c.next_line-answer.ensures ∙ c.in-Next.is), c.count_rows.ensures)
+    let room = roomy_by c.args.probability_bits.now c.args.counts.now c.args.entries.now c.args.shot.now _ c.long_enough.ensures in
+    storable c.args.n c.args.line.now _ c.in_ok-next.next (cc) (cc) (sym c.next_line.ensures ∙ c.in_ok-next.was)
 
-pub returns-in-Refused : goal.returns-in-Refused
-returns-in-Refused c =
-    refused_read c.args.line.now c.args.n (columns_of c.args.probability_bits.now c.args.counts.now c.args.entries.now c.args.shot.now) (sym c.over.ensures ∙ c.if-over.false) (roomy_by c.args.probability_bits.now c.args.counts.now c.args.entries.now c.args.shot.now c.long_enough.result true c.long_enough.ensures (not-false c.long_enough.result (ap not c.if-not-long_enough.false))) c.in-Refused.r (sym c.in-Refused.is ∙ c.next_line-answer.ensures)
-
-pub shape_of-probability_bits : goal.shape_of-probability_bits
-shape_of-probability_bits c = c.store.auto.probability_bits
-
-pub shape_of-counts : goal.shape_of-counts
-shape_of-counts c = c.store.auto.counts
-
-pub shape_of-entries : goal.shape_of-entries
-shape_of-entries c = c.store.auto.entries
-
-pub shape_of-shot : goal.shape_of-shot
-shape_of-shot c = c.store.auto.shot
-
-pub returns-in-Next : goal.returns-in-Next
-returns-in-Next c =
-    next_read c.args.line.now c.args.n (columns_of c.args.probability_bits.now c.args.counts.now c.args.entries.now c.args.shot.now) (sym c.over.ensures ∙ c.if-over.false) (roomy_by c.args.probability_bits.now c.args.counts.now c.args.entries.now c.args.shot.now c.long_enough.result true c.long_enough.ensures (not-false c.long_enough.result (ap not c.if-not-long_enough.false))) c.in-Next.next _ (sym c.in-Next.is ∙ c.next_line-answer.ensures) c.store.ensures
+pub returns : goal.returns
+returns c =
+    let room = roomy_by c.args.probability_bits.now c.args.counts.now c.args.entries.now c.args.shot.now _ c.long_enough.ensures in
+    next_read c.args.line.now c.args.n _ (cc) (cc) c.in_ok-next.next _ (sym c.in_ok-next.was ∙ c.next_line.ensures) c.store.ensures

@@ -1,45 +1,29 @@
 -- `reader::store_component`: an entry in each column, and the lists.
-use Prim.Native.Nat.{ℕ, ◌+◌, ◌-◌}
-use mathlib.Core.Path.{refl, sym, ap, ◌∙◌}
-use mathlib.Core.List.{List}
-use native.Mathlib.Omega.{arith}
-use lib.ListN.{set}
-use lib.Seq.{sets}
+use Rattle.std.proofs.Common.{arith, refl, ◌+◌, ◌≡◌}
 use Rattle.hex_text.specs.Hex.{bytes_of}
-use Rattle.columns.specs.Columns.{column}
 use Rattle.reader.specs.Columns.{byte_of}
 use Rattle.frames.proofs.FrameKinds.{long_is, size_is}
 use Rattle.reader.proofs.Reading.{first_long, second_long, listed_is}
 use Rattle.reader.proofs.store_component.Goals as goal
 
-pub byte_at-d-requires : goal.byte_at-d-requires
-byte_at-d-requires c = omega (arith, (long_is (bytes_of c.args.line.now) 1 c.requires.0))
-
-pub byte_at-o-requires : goal.byte_at-o-requires
-byte_at-o-requires c = omega (arith, (long_is (bytes_of c.args.line.now) 1 c.requires.0))
-
-pub count-requires : goal.count-requires
-count-requires c = (omega (arith, c.requires.1, c.requires.2), omega arith)
-
-pub set_count-requires : goal.set_count-requires
-set_count-requires c = (c.requires.4, omega (arith, c.requires.1, c.requires.2), omega arith)
-
-pub set_count-requires-2 : goal.set_count-requires-2
-set_count-requires-2 c = (c.set_count.ensures.1.rows, omega (arith, c.requires.3, c.set_count.ensures.1.long), omega arith)
-
-pub set_count-requires-3 : goal.set_count-requires-3
-set_count-requires-3 c = (c.set_count-2.ensures.1.rows, omega (arith, c.requires.3, c.set_count.ensures.1.long, c.set_count-2.ensures.1.long), omega arith)
-
 pub read_u16s-requires : goal.read_u16s-requires
-read_u16s-requires c = (omega (arith, (long_is (bytes_of c.args.line.now) 1 c.requires.0), c.byte_at-d.ensures, c.byte_at-o.ensures), omega (arith, size_is (bytes_of c.args.line.now) 1, c.byte_at-d.ensures, c.byte_at-o.ensures, c.requires.5))
+read_u16s-requires c =
+    let l = bytes_of c.args.line.now in
+    (omega (arith, long_is l 1 c.requires.0), omega (arith, size_is l 1))
 
 pub returns : goal.returns
-returns c = (
-  c.set_count-3.ensures.1.rest 0 refl ∙ c.set_count-2.ensures.1.rest 0 refl ∙ c.set_count.ensures.1.rest 0 refl,
-  c.set_count-3.ensures.1.rest 1 refl ∙ c.set_count-2.ensures.1.rest 1 refl ∙ c.set_count.ensures.1.rest 1 refl,
-  c.set_count-3.ensures.1.rest 2 refl ∙ c.set_count-2.ensures.1.rest 2 refl ∙ c.set_count.ensures.0 ∙ ap (λ (v : ℕ). set (column 0 2 c.args.counts.now) (c.args.n.mechanisms - 1) v) (c.one_more-more.ensures ∙ ap (λ (k : ℕ). byte_of (k + 1)) c.count.ensures),
-  c.set_count-3.ensures.1.rest 3 refl ∙ c.set_count-2.ensures.0 ∙ ap (λ (k : List ℕ). set k c.args.n.components c.byte_at-d.result) (c.set_count.ensures.1.rest 3 refl) ∙ ap (λ (v : ℕ). set (column 0 3 c.args.counts.now) c.args.n.components v) (c.byte_at-d.ensures ∙ sym (first_long (bytes_of c.args.line.now) 1)),
-  c.set_count-3.ensures.0 ∙ ap (λ (k : List ℕ). set k c.args.n.components c.byte_at-o.result) (c.set_count-2.ensures.1.rest 4 refl ∙ c.set_count.ensures.1.rest 4 refl) ∙ ap (λ (v : ℕ). set (column 0 4 c.args.counts.now) c.args.n.components v) (c.byte_at-o.ensures ∙ sym (second_long (bytes_of c.args.line.now) 1)),
-  c.read_u16s.ensures ∙ ap (λ (v : List ℕ). sets c.args.entries.now c.args.n.entries v)
-      (listed_is (bytes_of c.args.line.now) 1 (c.byte_at-d.result + c.byte_at-o.result) (omega (arith, c.byte_at-d.ensures, c.byte_at-o.ensures))),
-)
+returns c =
+    let l = bytes_of c.args.line.now in
+    let k = c.set_count.ensures in
+    let d = c.set_count-2.ensures in
+    let o = c.set_count-3.ensures in
+    let some = first_long l 1 in
+    let more = second_long l 1 in
+    let one_more : c.saturating_add-more.result ≡ byte_of (c.count.result + 1) = omega arith in (
+      cc (k.1.rest 0 refl, d.1.rest 0 refl, o.1.rest 0 refl),
+      cc (k.1.rest 1 refl, d.1.rest 1 refl, o.1.rest 1 refl),
+      cc (k.0, d.1.rest 2 refl, o.1.rest 2 refl),
+      cc (k.1.rest 3 refl, d.0, o.1.rest 3 refl),
+      cc (k.1.rest 4 refl, d.1.rest 4 refl, o.0),
+      cc (listed_is l 1 (c.byte_at-d.result + c.byte_at-o.result) (omega arith)),
+    )

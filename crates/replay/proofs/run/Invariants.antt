@@ -1,6 +1,6 @@
--- `replay::run`: counts that stay below the most.
-use Rattle.std.proofs.Common.{◌-◌}
+-- `replay::run`: no more cases are wrong than there were.
+use Rattle.std.proofs.Common.{◌≤◌}
 use Rattle.replay.proofs.run.Given as goal
 
-abbrev pub decreases-loop-cases : goal.decreases-loop-cases
-decreases-loop-cases g l = 100000 - l.cases
+abbrev pub invariant-loop-cases : goal.invariant-loop-cases
+invariant-loop-cases g l = l.wrong ≤ l.cases-counter

@@ -1,18 +1,15 @@
 -- `replies::rate_line`: the parts make the line.
-use Prim.Native.Nat.{ℕ, ◌+◌}
+use Prim.Native.Nat.{ℕ}
 use mathlib.Core.Path.{refl, ap, ◌∙◌}
 use mathlib.Core.List.{List, [], ◌∷◌, ◌++◌, append_assoc}
 use native.Mathlib.Omega.{arith}
-use lib.ListN.{length-set, length-append}
+use lib.ListN.{length-append}
 use lib.Seq.{sets}
 use Rattle.hex_text.specs.Hex.{text_of, bytes_in}
 use Rattle.hex_text.proofs.Texts.{in_long}
 use Rattle.replies.specs.Replies.{rate_reply}
 use Rattle.replies.proofs.Lines.{joined, line_written}
 use Rattle.replies.proofs.rate_line.Goals as goal
-
-pub shape_of-out : goal.shape_of-out
-shape_of-out c = simp length-set (c.write_number-3.auto.out ∙ c.write_number-2.auto.out ∙ c.write_number.auto.out ∙ c.write_byte.auto.out)
 
 pub returns : goal.returns
 returns c = line_written (rate_reply c.args.shots c.args.failures c.args.rate) c.args.out.now _ 34

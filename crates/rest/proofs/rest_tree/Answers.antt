@@ -1,8 +1,5 @@
-use Prim.Native.Nat.{◌-◌}
-use mathlib.Core.Path.{◌≡◌, refl, ◌∙◌}
-use mathlib.Core.List.{append-nil}
+use mathlib.Core.Path.{refl}
 use native.Mathlib.Omega.{arith}
-use lib.ListN.{length, length-set, drop_of_length-le}
 use Rattle.lists.specs.Lists.{below, from}
 use Rattle.rest.specs.Rows.{alone}
 use Rattle.rest.proofs.Rows.{rows_next}
@@ -10,13 +7,7 @@ use Rattle.rest.proofs.rest_tree.Goals as goal
 
 pub loop-i-init : goal.loop-i-init
 unfolding below from
-loop-i-init c = (omega arith, refl, refl)
+loop-i-init c = refl
 
 pub loop-i-preserved : goal.loop-i-preserved
-loop-i-preserved c = (omega arith, simp length-set c.loop-i.invariant.1, rw c.loop-i.invariant.2 (rows_next alone c.args.t.now c.loop-i.i (omega arith)))
-
-pub shape_of-t : goal.shape_of-t
-shape_of-t c = c.loop-i.invariant.1
-
-pub returns : goal.returns
-returns c = let e : c.loop-i.i ≡ length c.args.t.now = omega arith in c.loop-i.invariant.2 ∙ rw (e, drop_of_length-le c.args.t.now {i = length c.args.t.now} (omega arith)) (append-nil _)
+loop-i-preserved c = rw (c.alone.ensures, c.loop-i.invariant) (rows_next alone c.args.t.now c.loop-i.i (omega arith))

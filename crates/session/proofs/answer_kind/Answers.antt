@@ -1,7 +1,7 @@
 -- `session::answer_kind`: 04, 06, or nothing to tell.
 use native.Mathlib.Omega.{arith}
 use lib.ListN.{take, drop}
-use Rattle.columns.specs.Columns.{column}
+use Rattle.counts.specs.Rows.{column}
 use Rattle.reader.proofs.Parts.{places_of, truth_is}
 use Rattle.session.proofs.ByKind.{some_model, some_shot, by_model, by_shot, by_other}
 use Rattle.session.proofs.answer_kind.Goals as goal

@@ -30,16 +30,16 @@ slice_bounds-shot_reply-end-5 c = omega (arith, (fits c.args.n c.args.state c.ar
 pub slice_bounds-shot_reply-end-6 : goal.slice_bounds-shot_reply-end-6
 slice_bounds-shot_reply-end-6 c = omega (arith, (fits c.args.n c.args.state c.args.row.now c.args.truth.now c.args.edge_u.now c.args.edge_v.now c.args.edge_weight.now c.args.edge_obs.now c.requires.1).truth, c.words-truth_words.ensures)
 
-pub shot_reply-reply-requires : goal.shot_reply-reply-requires
-shot_reply-reply-requires c = (omega (arith, (fits c.args.n c.args.state c.args.row.now c.args.truth.now c.args.edge_u.now c.args.edge_v.now c.args.edge_weight.now c.args.edge_obs.now c.requires.1).truths, c.words-truth_words.ensures, length-take c.words-truth_words.result c.args.truth.now), c.requires.0)
+pub shot_reply-decoded-requires : goal.shot_reply-decoded-requires
+shot_reply-decoded-requires c = (omega (arith, (fits c.args.n c.args.state c.args.row.now c.args.truth.now c.args.edge_u.now c.args.edge_v.now c.args.edge_weight.now c.args.edge_obs.now c.requires.1).truths, c.words-truth_words.ensures, length-take c.words-truth_words.result c.args.truth.now), c.requires.0)
 
 pub counted-requires : goal.counted-requires
 counted-requires c = (omega (arith, (fits c.args.n c.args.state c.args.row.now c.args.truth.now c.args.edge_u.now c.args.edge_v.now c.args.edge_weight.now c.args.edge_obs.now c.requires.1).shots, c.if-n-eq-MAX_SHOTS.false), (fits c.args.n c.args.state c.args.row.now c.args.truth.now c.args.edge_u.now c.args.edge_v.now c.args.edge_weight.now c.args.edge_obs.now c.requires.1).failures)
 
-pub returns-in-Refused : goal.returns-in-Refused
-returns-in-Refused c =
-    by_refused c.args.n c.args.state c.args.row.now c.args.truth.now c.args.edge_u.now c.args.edge_v.now c.args.edge_weight.now c.args.edge_obs.now _ _ c.words-row_words.ensures c.words-truth_words.ensures c.if-n-eq-MAX_SHOTS.false c.args.out.now _ _ (rw c.in-Refused.is at c.shot_reply-reply.ensures) _ _ c.refuse-in-Refused.ensures
+pub returns-in-Err : goal.returns-in-Err
+returns-in-Err c =
+    by_refused c.args.n c.args.state c.args.row.now c.args.truth.now c.args.edge_u.now c.args.edge_v.now c.args.edge_weight.now c.args.edge_obs.now _ _ c.words-row_words.ensures c.words-truth_words.ensures c.if-n-eq-MAX_SHOTS.false c.args.out.now _ _ (rw c.in-Err.is at c.shot_reply-decoded.ensures) _ _ c.refuse-in-Err.ensures
 
-pub returns-in-Decoded : goal.returns-in-Decoded
-returns-in-Decoded c =
-    by_decoded_lem c.args.n c.args.state c.args.row.now c.args.truth.now c.args.edge_u.now c.args.edge_v.now c.args.edge_weight.now c.args.edge_obs.now _ _ c.words-row_words.ensures c.words-truth_words.ensures c.if-n-eq-MAX_SHOTS.false c.args.out.now _ _ _ (rw c.in-Decoded.is at c.shot_reply-reply.ensures) _ c.counted.ensures
+pub returns-in-Ok : goal.returns-in-Ok
+returns-in-Ok c =
+    by_decoded_lem c.args.n c.args.state c.args.row.now c.args.truth.now c.args.edge_u.now c.args.edge_v.now c.args.edge_weight.now c.args.edge_obs.now _ _ c.words-row_words.ensures c.words-truth_words.ensures c.if-n-eq-MAX_SHOTS.false c.args.out.now _ _ (rw c.in-Ok.is at c.shot_reply-decoded.ensures) _ c.counted.ensures

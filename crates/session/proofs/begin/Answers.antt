@@ -3,4 +3,4 @@ use Rattle.session.proofs.Fronts.{begin_numbers}
 use Rattle.session.proofs.begin.Goals as goal
 
 pub returns : goal.returns
-returns c = begin_numbers c.start-state.result c.start-state.ensures
+returns c = begin_numbers c.start.result c.start.ensures

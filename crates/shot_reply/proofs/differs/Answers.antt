@@ -1,20 +1,7 @@
-use Prim.Native.Nat.{◌-◌}
-use mathlib.Core.Path.{refl, sym, ◌∙◌}
-use borrow.Author.Tests.{eq-eqb, ne_eqb}
-use Rattle.shot_reply.proofs.Texts.{differs_here, differs_later, differs_end}
+-- `shot_reply::differs`: rows of one length differ where they are not the same.
+use mathlib.Core.Path.{◌∙◌}
+use Rattle.shot_reply.proofs.Texts.{differs_is}
 use Rattle.shot_reply.proofs.differs.Goals as goal
 
-pub loop-i-init : goal.loop-i-init
-loop-i-init c = refl
-
-pub returns-then-row-i : goal.returns-then-row-i
-returns-then-row-i c =
-    sym (differs_here c.args.row.now c.args.truth.now c.loop-i.i c.loop-i-test.true c.requires (ne_eqb _ _ c.if-row-i.true)) ∙ c.loop-i.invariant
-
-pub loop-i-preserved : goal.loop-i-preserved
-loop-i-preserved c =
-    sym (differs_later c.args.row.now c.args.truth.now c.loop-i.i c.loop-i-test.true c.requires (eq-eqb _ _ c.if-row-i.false)) ∙ c.loop-i.invariant
-
 pub returns : goal.returns
-returns c =
-    sym (differs_end c.args.row.now c.args.truth.now c.loop-i.i c.loop-i-test.false) ∙ c.loop-i.invariant
+returns c = c.ne.ensures ∙ differs_is c.args.row.now c.args.truth.now c.requires

@@ -3,4 +3,4 @@ use Rattle.stream.proofs.Wholes.{start_is}
 use Rattle.stream.proofs.start.Goals as goal
 
 pub returns : goal.returns
-returns c = start_is c.begin-numbers.result c.begin-numbers.ensures
+returns c = start_is c.begin.result c.begin.ensures

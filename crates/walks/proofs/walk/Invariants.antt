@@ -1,5 +1,5 @@
 -- `walks::walk` meets its contract. The invariant: the walk from here, with just the fuel that it needs, is the whole walk. Assumes nothing.
-use Prim.Native.Nat.{◌+◌, ◌-◌}
+use Prim.Native.Nat.{◌+◌}
 use mathlib.Core.List.{[], ◌∷◌}
 use Rattle.lists.proofs.Counts.{falses}
 use Rattle.cells.specs.Tables.{frees, active, front, order_edge, order_parent, SameFlags, SameStacks}

@@ -1,9 +1,9 @@
 -- `whole_input::answer_input`: the tables are long enough.
-use mathlib.Core.Path.{refl, sym}
+use mathlib.Core.Path.{refl}
 use native.Mathlib.Omega.{arith}
 use lib.ListN.{replicate}
 use Rattle.stream.proofs.Begins.{sizes_made}
 use Rattle.whole_input.proofs.answer_input.Goals as goal
 
 pub answer_over-requires : goal.answer_over-requires
-answer_over-requires c = record { sizes = sizes_made _ _ _ (replicate 6 0) _ (record { bits = refl; counts = refl; entries = sym c.entries-entries.ensures; shot = refl; u = refl; v = refl; weight = refl; obs = refl }); buffer = refl; room = omega arith }
+answer_over-requires c = record { sizes = sizes_made _ _ _ (replicate 6 0) _ (record { bits = refl; counts = refl; entries = refl; shot = refl; u = refl; v = refl; weight = refl; obs = refl }); buffer = refl; room = omega arith }

@@ -9,7 +9,7 @@ use Rattle.whole_input.specs.Whole.{Filled}
 use Rattle.whole_input.proofs.answer_over.Given as goal
 
 abbrev pub invariant-loop-p : goal.invariant-loop-p
-invariant-loop-p l = Filled l.input l.p l.at (columns_of l.probability_bits l.counts l.entries l.shot) (slices l.edge_u l.edge_v l.edge_weight l.edge_obs []) l.line l.reply l.initial.out l.out × (l.p.filled ≡ 0) × (length l.line ≡ length l.initial.line) × (length l.probability_bits ≡ length l.initial.probability_bits) × (length l.counts ≡ length l.initial.counts) × (length l.entries ≡ length l.initial.entries) × (length l.shot ≡ length l.initial.shot) × (length l.edge_u ≡ length l.initial.edge_u) × (length l.edge_v ≡ length l.initial.edge_v) × (length l.edge_weight ≡ length l.initial.edge_weight) × (length l.edge_obs ≡ length l.initial.edge_obs) × (length l.reply ≡ length l.initial.reply) × (length l.out ≡ length l.initial.out)
+invariant-loop-p l = Filled l.input l.p l.at (columns_of l.probability_bits l.counts l.entries l.shot) (slices l.edge_u l.edge_v l.edge_weight l.edge_obs []) l.line l.reply l.initial.out l.out × (l.p.filled ≡ 0)
 
 abbrev pub decreases-loop-p : goal.decreases-loop-p
 decreases-loop-p l = length l.input - l.p.taken

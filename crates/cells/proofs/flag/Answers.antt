@@ -1,7 +1,0 @@
-use mathlib.Core.Bool.{false}
-use mathlib.Core.Path.{sym}
-use Rattle.columns.proofs.Columns.{column_at}
-use Rattle.cells.proofs.flag.Goals as goal
-
-pub returns : goal.returns
-returns c = sym (column_at false c.args.k c.args.s.now c.args.d)

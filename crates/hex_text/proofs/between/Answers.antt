@@ -1,9 +1,0 @@
--- `hex::between`: the two comparisons.
-use borrow.Author.Tests.{le-leb, lt-leb}
-use Rattle.hex_text.proofs.between.Goals as goal
-
-pub returns-then-a-b : goal.returns-then-a-b
-returns-then-a-b c = simp (le-leb _ _ c.if-a-b.true)
-
-pub returns-else-a-b : goal.returns-else-a-b
-returns-else-a-b c = simp (lt-leb _ _ c.if-a-b.false)

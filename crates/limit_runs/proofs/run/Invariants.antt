@@ -1,9 +1,0 @@
--- `limit_runs::run`: line by line.
-use Rattle.std.proofs.Common.{◌-◌, ◌≤◌, length}
-use Rattle.limit_runs.proofs.run.Given as goal
-
-abbrev pub invariant-loop-at : goal.invariant-loop-at
-invariant-loop-at g l = l.at ≤ length l.text
-
-abbrev pub decreases-loop-at : goal.decreases-loop-at
-decreases-loop-at g l = length l.text - l.at
