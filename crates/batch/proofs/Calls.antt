@@ -3,7 +3,7 @@ use Rattle.codes.specs.Order.{Checked}
 use Rattle.std.specs.Prelude.{Ok, Err}
 use Prim.Native.Nat.{ℕ, ◌*◌, ◌≤◌}
 use native.Mathlib.Omega.{arith}
-use mathlib.Core.Path.{◌≡◌, refl, sym, ap, ◌∙◌}
+use mathlib.Core.Path.{◌≡◌, refl, sym, ap, ◌∙◌, subst}
 use mathlib.Core.List.{List}
 use mathlib.Core.Bool.{Bool, true, ◌&&◌}
 use lib.Dec.{leb}
@@ -14,6 +14,7 @@ use Rattle.lists.proofs.Truth.{and_left, and_right}
 use Rattle.bits.specs.Rows.{words}
 use Rattle.codes.specs.Codes.{checked_row}
 use Rattle.codes.specs.declared.Refusal.{Refusal}
+use Rattle.scratch.specs.declared.Lengths.{Lengths}
 use Rattle.scratch.specs.Scratch.{scratch_long}
 use Rattle.scratch.specs.Laws.{Long}
 use Rattle.scratch.proofs.Laws.{scratch_long_lem}
@@ -26,9 +27,10 @@ use Rattle.batch.specs.Batch.{Handed, own_long, checks, Decodes}
 
 module _ (h : Handed) where
   -- the tests are those of the call's own slices
-  pub own_is : {long : Bool} → long ≡ slices_long h.graph.detectors h.graph.observables h.graph.edges h.shots (length h.out) h.list h.scratch → long ≡ own_long h
+  pub own_is : {long : Bool} {have : Lengths} → have ≡ h.scratch
+      → long ≡ slices_long h.graph.detectors h.graph.observables h.graph.edges h.shots (length h.out) h.list have → long ≡ own_long h
   unfolding own_long
-  own_is p = p
+  own_is e p = rw e at p
 
   -- the check of the call is the one that was made
   pub checks_by : (long : Bool) (c : Checked) → long ≡ own_long h → c ≡ check_call h.graph long h.rows h.shots h.width → c ≡ checks h
@@ -43,6 +45,10 @@ module _ (h : Handed) where
     pub accepts : Accepts h.graph (own_long h) h.rows h.shots h.width
     unfolding checks
     accepts = call_accepted h.graph (own_long h) h.rows h.shots h.width (sym a)
+
+    -- its width is the number of detectors
+    pub by_width : checks (record h { width = h.graph.detectors }) ≡ Ok tt
+    by_width = subst (λ (w : ℕ). checks (record h { width = w }) ≡ Ok tt) accepts.wide (sym a)
 
     own : own_long h ≡ true
     own = accepts.own_long

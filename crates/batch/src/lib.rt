@@ -1,93 +1,66 @@
 // A batch decoded: docs/RULES.md, "Shots and rows" and "Refusals". The call checks all that it is handed, puts its scratch to rest and decodes its shots.
 #![tactic(auto)]
 
-ghost use Rattle.std.specs.Prelude.{length};
-ghost use Rattle.scratch.specs.Scratch.{lengths_of};
-ghost use Rattle.lent_graph.specs.Call.{lent_of};
-ghost use Rattle.batch.specs.Batch.{handed, Decodes};
+ghost use Rattle.std.specs.Prelude.{◌≡◌, length};
+ghost use Rattle.lists.specs.Lists.{below};
+ghost use Rattle.scratch.specs.Scratch.{lengths_in};
+ghost use Rattle.lent_graph.specs.Graph.{lent, edge_graph};
+ghost use Rattle.batch_rows.specs.Rows.{check_shots_of, rows_of};
+ghost use Rattle.batch.specs.Batch.{handed, checks, Decodes};
 
-use adjacency::Neighbor;
-use cells::{Flags, Link, Node, Stack};
+use adjacency::Incidence;
 use codes::Checked;
-use scratch::Lengths;
+use lent_graph::Graph;
+use scratch::Scratch;
 
-// The graph is checked and its edges at each detector worked out once. Long for its parameters, one a line.
-pub fn decode_batch(
-    detectors: usize,
-    observables: usize,
-    edges: usize,
+// The shots of an accepted call decoded. The edges at each detector are worked out once.
+pub fn decode_accepted(
+    g: &Graph,
+    rows: &[u64],
+    shots: usize,
     out: &mut [u64],
     list: &mut [u32],
-    adj_offsets: &mut [u32],
-    adj: &mut [Neighbor],
-    tree: &mut [Node],
-    flags: &mut [Flags],
-    stacks: &mut [Stack],
-    links: &mut [Link],
-    growth: &mut [f64],
-    sat: &mut [bool],
-    edge_u: &[u32],
-    edge_v: &[u32],
-    edge_weight: &[f64],
-    edge_obs: &[u64],
+    s: &mut Scratch,
+) -> Checked
+    requires { checks (handed (lent g.now) rows.now shots g.now.detectors out.old (length list.old) (lengths_in s.old)) ≡ Ok tt }
+    ensures answers { result ≡ check_shots_of (edge_graph g.now) rows.now (below shots) }
+    ensures rows { out.new ≡ rows_of (edge_graph g.now) rows.now (below shots) out.old }
+{
+    let adj_offsets = &mut *s.adj_offsets;
+    let neighbors = &mut *s.adj;
+    adjacency::tabulate(g, adj_offsets, neighbors);
+    let adj = Incidence {
+        offsets: adj_offsets,
+        neighbors,
+    };
+    let t = &mut s.tables;
+    batch_rows::reset_and_decode_rows(
+        g, &adj, rows, shots, out, list, t.tree, t.flags, t.stacks, t.links, t.growth, t.sat,
+    )
+}
+
+// All checks, in their order, then the shots.
+pub fn decode_batch(
+    g: &Graph,
     rows: &[u64],
     shots: usize,
     width: usize,
+    out: &mut [u64],
+    list: &mut [u32],
+    s: &mut Scratch,
 ) -> Checked
-    ensures { Decodes (handed (lent_of detectors observables edges edge_u.now edge_v.now edge_weight.now edge_obs.now) rows.now shots width out.old (length list.old) (lengths_of (length adj_offsets.old) (length adj.old) (length tree.old) (length flags.old) (length stacks.old) (length links.old) (length growth.old) (length sat.old))) result out.new }
+    ensures { Decodes (handed (lent g.now) rows.now shots width out.old (length list.old) (lengths_in s.old)) result out.new }
 {
-    let have = Lengths {
-        adj_offsets: adj_offsets.len(),
-        adj: adj.len(),
-        tree: tree.len(),
-        flags: flags.len(),
-        stacks: stacks.len(),
-        links: links.len(),
-        growth: growth.len(),
-        sat: sat.len(),
-    };
+    let have = s.lengths();
     let long = own_slices::own_long(
-        detectors,
-        observables,
-        edges,
+        g.detectors,
+        g.observables,
+        g.edges,
         shots,
         out.len(),
         list.len(),
         have,
     );
-    lent_graph::check_call(
-        detectors,
-        observables,
-        edges,
-        edge_u,
-        edge_v,
-        edge_weight,
-        edge_obs,
-        long,
-        rows,
-        shots,
-        width,
-    )?;
-    adjacency::tabulate(detectors, edges, edge_u, edge_v, adj_offsets, adj);
-    batch_rows::reset_and_decode_rows(
-        detectors,
-        observables,
-        edges,
-        edge_u,
-        edge_v,
-        edge_weight,
-        edge_obs,
-        adj_offsets,
-        adj,
-        rows,
-        shots,
-        out,
-        list,
-        tree,
-        flags,
-        stacks,
-        links,
-        growth,
-        sat,
-    )
+    lent_graph::check_call(g, long, rows, shots, width)?;
+    decode_accepted(g, rows, shots, out, list, s)
 }

@@ -11,7 +11,7 @@ use Rattle.dem.specs.Tables.{Tables}
 use Rattle.dem.specs.Positions.{tables}
 use Rattle.dem.specs.Cases.{three_eighths}
 use Rattle.split_model.specs.declared.Counts.{Counts}
-use Rattle.decompose.specs.declared.Scratch.{Scratch}
+use Rattle.decompose.specs.declared.Lengths.{Lengths}
 use Rattle.decompose.specs.Call.{outcome as decomposition, Decomposes}
 use Rattle.edges.specs.Cases.{quarter, eighth}
 use Rattle.edges.specs.Tables.{Slices, slices}
@@ -21,8 +21,8 @@ use Rattle.lent_graph.specs.Call.{Lent, lent_of}
 use Rattle.marking.specs.declared.Marking.{Marking}
 use Rattle.marking.specs.declared.Marking.TheVariants as marking
 use Rattle.marker.specs.Answer.{Marks}
-use Rattle.decoder.specs.declared.Answer.{Answer}
-use Rattle.decoder.specs.declared.Answer.TheVariants as answer
+use Rattle.shot.specs.declared.Shot.{Shot}
+use Rattle.shot.specs.declared.Shot.TheVariants as answer
 use Rattle.decoder.specs.Answer.{Handed, handed, graph_of_call, lit_of_call, Decodes}
 
 -- ---- numbers
@@ -53,8 +53,8 @@ unfolding lengths_for
 shot_of l word = handed l (word ∷ []) 2 (0 ∷ 9 ∷ []) (7 ∷ 8 ∷ 9 ∷ []) (lengths_for 2 2)
 
 -- whatever keeps the decoder's contract there answers r and leaves this list and this row
-abbrev pub Gives : Handed → Answer → List ℕ → List ℕ → Type 0
-Gives h r list row = (r' : Answer) (list' row' : List ℕ) → Decodes h r' list' row' → (r' ≡ r) × (list' ≡ list) × (row' ≡ row)
+abbrev pub Gives : Handed → Result Shot Refusal → List ℕ → List ℕ → Type 0
+Gives h r list row = (r' : Result Shot Refusal) (list' row' : List ℕ) → Decodes h r' list' row' → (r' ≡ r) × (list' ≡ list) × (row' ≡ row)
 
 -- how often edge e is counted in the first round of that call, as the steps tell on what it is handed
 abbrev pub counted : Handed → ℕ → ℕ
@@ -62,19 +62,19 @@ counted h e = count (graph_of_call h) (lit_of_call h) (start (graph_of_call h) (
 
 pub record Decoder : Type 0 where
   -- "no lit detector, empty list"
-  pub dark : Gives (shot_of both_edges 0) (answer.Decoded 0 0) (7 ∷ 8 ∷ 9 ∷ []) (0 ∷ 9 ∷ [])
+  pub dark : Gives (shot_of both_edges 0) (Ok (answer.Decoded 0 0)) (7 ∷ 8 ∷ 9 ∷ []) (0 ∷ 9 ∷ [])
   -- "D0, list 0, row 1"
-  pub d0 : Gives (shot_of both_edges 1) (answer.Decoded 1 1) (0 ∷ 8 ∷ 9 ∷ []) (1 ∷ 9 ∷ [])
+  pub d0 : Gives (shot_of both_edges 1) (Ok (answer.Decoded 1 1)) (0 ∷ 8 ∷ 9 ∷ []) (1 ∷ 9 ∷ [])
   -- "D1, as shown"
-  pub d1 : Gives (shot_of both_edges 2) (answer.Decoded 2 2) (1 ∷ 0 ∷ 9 ∷ []) (1 ∷ 9 ∷ [])
+  pub d1 : Gives (shot_of both_edges 2) (Ok (answer.Decoded 2 2)) (1 ∷ 0 ∷ 9 ∷ []) (1 ∷ 9 ∷ [])
   -- "both, list 1, row 0, edge 1 counted twice"
-  pub d01 : Gives (shot_of both_edges 3) (answer.Decoded 1 1) (1 ∷ 8 ∷ 9 ∷ []) (0 ∷ 9 ∷ [])
+  pub d01 : Gives (shot_of both_edges 3) (Ok (answer.Decoded 1 1)) (1 ∷ 8 ∷ 9 ∷ []) (0 ∷ 9 ∷ [])
   pub d01_twice : counted (shot_of both_edges 3) 1 ≡ 2
   -- "With the pair edge alone: D1 is Stuck naming 0; both pass"
-  pub pair_d1 : Gives (shot_of pair_only 2) (answer.Stuck 1 0) (7 ∷ 8 ∷ 9 ∷ []) (0 ∷ 9 ∷ [])
-  pub pair_d01 : Gives (shot_of pair_only 3) (answer.Decoded 1 1) (0 ∷ 8 ∷ 9 ∷ []) (0 ∷ 9 ∷ [])
+  pub pair_d1 : Gives (shot_of pair_only 2) (Ok (answer.Stuck 1 0)) (7 ∷ 8 ∷ 9 ∷ []) (0 ∷ 9 ∷ [])
+  pub pair_d01 : Gives (shot_of pair_only 3) (Ok (answer.Decoded 1 1)) (0 ∷ 8 ∷ 9 ∷ []) (0 ∷ 9 ∷ [])
   -- "D = 2 with word 4 gives 9"
-  pub padding : Gives (shot_of both_edges 4) (answer.Refused (refusal.Padding 0)) (7 ∷ 8 ∷ 9 ∷ []) (0 ∷ 9 ∷ [])
+  pub padding : Gives (shot_of both_edges 4) (Err (refusal.Padding 0)) (7 ∷ 8 ∷ 9 ∷ []) (0 ∷ 9 ∷ [])
 
 -- ---- the marker
 
@@ -135,7 +135,7 @@ abbrev pub lent : Tables
 lent = tables (one ∷ one ∷ one ∷ []) (7 ∷ 8 ∷ 9 ∷ []) (7 ∷ 8 ∷ 9 ∷ []) (7 ∷ 8 ∷ 9 ∷ []) (7 ∷ 8 ∷ []) (7 ∷ 8 ∷ []) (7 ∷ 8 ∷ 9 ∷ 10 ∷ 11 ∷ 12 ∷ 13 ∷ 14 ∷ [])
 
 -- scratch slices as long as it needs
-abbrev pub scratch : Scratch
+abbrev pub scratch : Lengths
 scratch = record { starts = 34; before = 34; last_of = 3; first_of = 3; next_of = 2; numbers = 2; masks = 2; words0 = 2; words1 = 2; earlier = 2 }
 
 -- whatever keeps the contract of decomposing that model answers r and leaves these tables

@@ -34,7 +34,10 @@ but_lit r v (suc zero) h = refl
 but_lit r v (suc (suc zero)) h = refl
 but_lit r v (suc (suc (suc zero))) h = refl
 but_lit r v (suc (suc (suc (suc zero)))) h = refl
-but_lit r v (suc (suc (suc (suc (suc k))))) h = refl
+but_lit r v (suc (suc (suc (suc (suc zero))))) h = refl
+but_lit r v (suc (suc (suc (suc (suc (suc zero)))))) h = refl
+but_lit r v (suc (suc (suc (suc (suc (suc (suc zero))))))) h = refl
+but_lit r v (suc (suc (suc (suc (suc (suc (suc (suc k)))))))) h = refl
 
 pub kept_lit : (t : List Flags) (x : ℕ) (v : Bool) (z : Flags) → SameFlags (0 ∷ []) t (set t x (record (get_or t x z) { lit = v }))
 kept_lit t x v z = keep_row t x (record (get_or t x z) { lit = v }) z (but_lit (get_or t x z) v)
@@ -45,7 +48,10 @@ but_known r v (suc zero) h = cc
 but_known r v (suc (suc zero)) h = refl
 but_known r v (suc (suc (suc zero))) h = refl
 but_known r v (suc (suc (suc (suc zero)))) h = refl
-but_known r v (suc (suc (suc (suc (suc k))))) h = refl
+but_known r v (suc (suc (suc (suc (suc zero))))) h = refl
+but_known r v (suc (suc (suc (suc (suc (suc zero)))))) h = refl
+but_known r v (suc (suc (suc (suc (suc (suc (suc zero))))))) h = refl
+but_known r v (suc (suc (suc (suc (suc (suc (suc (suc k)))))))) h = refl
 
 pub kept_known : (t : List Flags) (x : ℕ) (v : Bool) (z : Flags) → SameFlags (1 ∷ []) t (set t x (record (get_or t x z) { known = v }))
 kept_known t x v z = keep_row t x (record (get_or t x z) { known = v }) z (but_known (get_or t x z) v)
@@ -56,7 +62,10 @@ but_odd r v (suc zero) h = refl
 but_odd r v (suc (suc zero)) h = cc
 but_odd r v (suc (suc (suc zero))) h = refl
 but_odd r v (suc (suc (suc (suc zero)))) h = refl
-but_odd r v (suc (suc (suc (suc (suc k))))) h = refl
+but_odd r v (suc (suc (suc (suc (suc zero))))) h = refl
+but_odd r v (suc (suc (suc (suc (suc (suc zero)))))) h = refl
+but_odd r v (suc (suc (suc (suc (suc (suc (suc zero))))))) h = refl
+but_odd r v (suc (suc (suc (suc (suc (suc (suc (suc k)))))))) h = refl
 
 pub kept_odd : (t : List Flags) (x : ℕ) (v : Bool) (z : Flags) → SameFlags (2 ∷ []) t (set t x (record (get_or t x z) { odd = v }))
 kept_odd t x v z = keep_row t x (record (get_or t x z) { odd = v }) z (but_odd (get_or t x z) v)
@@ -67,7 +76,10 @@ but_hot r v (suc zero) h = refl
 but_hot r v (suc (suc zero)) h = refl
 but_hot r v (suc (suc (suc zero))) h = cc
 but_hot r v (suc (suc (suc (suc zero)))) h = refl
-but_hot r v (suc (suc (suc (suc (suc k))))) h = refl
+but_hot r v (suc (suc (suc (suc (suc zero))))) h = refl
+but_hot r v (suc (suc (suc (suc (suc (suc zero)))))) h = refl
+but_hot r v (suc (suc (suc (suc (suc (suc (suc zero))))))) h = refl
+but_hot r v (suc (suc (suc (suc (suc (suc (suc (suc k)))))))) h = refl
 
 pub kept_hot : (t : List Flags) (x : ℕ) (v : Bool) (z : Flags) → SameFlags (3 ∷ []) t (set t x (record (get_or t x z) { hot = v }))
 kept_hot t x v z = keep_row t x (record (get_or t x z) { hot = v }) z (but_hot (get_or t x z) v)
@@ -78,7 +90,10 @@ but_free r v (suc zero) h = refl
 but_free r v (suc (suc zero)) h = refl
 but_free r v (suc (suc (suc zero))) h = refl
 but_free r v (suc (suc (suc (suc zero)))) h = cc
-but_free r v (suc (suc (suc (suc (suc k))))) h = refl
+but_free r v (suc (suc (suc (suc (suc zero))))) h = refl
+but_free r v (suc (suc (suc (suc (suc (suc zero)))))) h = refl
+but_free r v (suc (suc (suc (suc (suc (suc (suc zero))))))) h = refl
+but_free r v (suc (suc (suc (suc (suc (suc (suc (suc k)))))))) h = refl
 
 pub kept_free : (t : List Flags) (x : ℕ) (v : Bool) (z : Flags) → SameFlags (4 ∷ []) t (set t x (record (get_or t x z) { free = v }))
 kept_free t x v z = keep_row t x (record (get_or t x z) { free = v }) z (but_free (get_or t x z) v)
@@ -159,7 +174,8 @@ but_touched : (r : Link) (v : ℕ) (k : ℕ) → among k (0 ∷ []) ≡ false �
 but_touched r v zero h = cc
 but_touched r v (suc zero) h = refl
 but_touched r v (suc (suc zero)) h = refl
-but_touched r v (suc (suc (suc k))) h = refl
+but_touched r v (suc (suc (suc zero))) h = refl
+but_touched r v (suc (suc (suc (suc k)))) h = refl
 
 pub kept_touched : (t : List Link) (x : ℕ) (v : ℕ) (z : Link) → SameLinks (0 ∷ []) t (set t x (record (get_or t x z) { touched = v }))
 kept_touched t x v z = keep_row t x (record (get_or t x z) { touched = v }) z (but_touched (get_or t x z) v)
@@ -168,7 +184,8 @@ but_count : (r : Link) (v : ℕ) (k : ℕ) → among k (1 ∷ []) ≡ false → 
 but_count r v zero h = refl
 but_count r v (suc zero) h = cc
 but_count r v (suc (suc zero)) h = refl
-but_count r v (suc (suc (suc k))) h = refl
+but_count r v (suc (suc (suc zero))) h = refl
+but_count r v (suc (suc (suc (suc k)))) h = refl
 
 pub kept_count : (t : List Link) (x : ℕ) (v : ℕ) (z : Link) → SameLinks (1 ∷ []) t (set t x (record (get_or t x z) { count = v }))
 kept_count t x v z = keep_row t x (record (get_or t x z) { count = v }) z (but_count (get_or t x z) v)
@@ -177,7 +194,8 @@ but_fresh : (r : Link) (v : ℕ) (k : ℕ) → among k (2 ∷ []) ≡ false → 
 but_fresh r v zero h = refl
 but_fresh r v (suc zero) h = refl
 but_fresh r v (suc (suc zero)) h = cc
-but_fresh r v (suc (suc (suc k))) h = refl
+but_fresh r v (suc (suc (suc zero))) h = refl
+but_fresh r v (suc (suc (suc (suc k)))) h = refl
 
 pub kept_fresh : (t : List Link) (x : ℕ) (v : ℕ) (z : Link) → SameLinks (2 ∷ []) t (set t x (record (get_or t x z) { fresh = v }))
 kept_fresh t x v z = keep_row t x (record (get_or t x z) { fresh = v }) z (but_fresh (get_or t x z) v)

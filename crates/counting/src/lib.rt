@@ -1,13 +1,14 @@
-// docs/RULES.md, "Growth", step 1: the live detectors listed, their open edges counted, the first stuck cluster.
+// docs/RULES.md, "Growth", step 1: the live detectors listed, and their open edges counted.
 #![tactic(auto)]
 
 ghost use Rattle.std.specs.Prelude.{◌+◌, ◌<◌, ◌≡◌, true, false, cond, length, eqb, [], ◌∷◌};
-ghost use Rattle.counting.specs.Counting.{Fronting, Fronted, Tabled, taken_at, CountedAt, Counting, Counted};
-ghost use Rattle.cells.specs.Tables.{at_count, at_free, at_front, at_parent, at_touched, parents, hots, frees, seen, front, touched, cnt, SameTree, SameFlags, SameStacks, SameLinks};
-ghost use Rattle.adjacency.specs.Pairs.{near, away};
+ghost use Rattle.counting.specs.Counting.{Fronting, Fronted};
+ghost use Rattle.counting.specs.Lent.{TabledIn, taken_of, CountedAtIn, CountingIn, CountedIn};
+ghost use Rattle.cells.specs.Tables.{at_count, at_free, at_front, at_parent, at_touched, parents, hots, seen, front, SameTree, SameFlags, SameStacks, SameLinks};
 
-use adjacency::Neighbor;
+use adjacency::Incidence;
 use cells::{Flags, Link, Node, Stack};
+use lent_graph::Graph;
 
 // The end y of an edge of x where it is a detector; x where it is the boundary, which is d.
 pub fn detector_at(d: usize, x: u32, y: u32) -> u32
@@ -17,6 +18,7 @@ pub fn detector_at(d: usize, x: u32, y: u32) -> u32
 }
 
 // Lists those of the n detectors seen whose cluster is active. Each that is seen is left pointing at its root.
+// kept: each table by itself, so that what it leaves alone needs no clause
 pub fn front(d: usize, tree: &mut [Node], flags: &[Flags], stacks: &mut [Stack], n: usize) -> usize
     requires fronting { Fronting d (seen stacks.old) n (parents tree.old) (hots flags.now) (front stacks.old) }
     ensures { Fronted d (seen stacks.old) n (parents tree.old) (hots flags.now) (parents tree.new) (front stacks.new) result
@@ -34,12 +36,10 @@ pub fn front(d: usize, tree: &mut [Node], flags: &[Flags], stacks: &mut [Stack],
 }
 
 // Lists the open edges of the live detector x from `from` on, beside each the count of its live ends, frees the cluster of x if there is one, and returns the place past them. An edge whose other end is live too is listed at the lower of the two. Each open edge is written before it is known whether it is listed, since that cannot be foretold.
+// kept: each table by itself, so that what it leaves alone needs no clause
 pub fn count_at(
-    d: usize,
-    edge_u: &[u32],
-    edge_v: &[u32],
-    adj_offsets: &[u32],
-    adj: &[Neighbor],
+    g: &Graph,
+    adj: &Incidence,
     tree: &[Node],
     flags: &mut [Flags],
     links: &mut [Link],
@@ -47,18 +47,20 @@ pub fn count_at(
     x: u32,
     from: usize,
 ) -> usize
-    requires tabled { Tabled d edge_u.now edge_v.now adj_offsets.now (near adj.now) (away adj.now) (parents tree.now) sat.now (hots flags.old) (frees flags.old) }
-    requires x_lt_d { x < d }
-    requires x_in_bounds { from + length (taken_at d edge_u.now edge_v.now (parents tree.now) sat.now (hots flags.old) x) < length links.old }
-    ensures { CountedAt d edge_u.now edge_v.now (parents tree.now) sat.now (hots flags.old) (frees flags.old) x (touched links.old) (cnt links.old) from (frees flags.new) (touched links.new) (cnt links.new) result
+    requires tabled { TabledIn g.now adj.now tree.now flags.old sat.now }
+    requires x_lt_d { x < g.now.detectors }
+    requires x_in_bounds { from + length (taken_of g.now tree.now flags.old sat.now x) < length links.old }
+    ensures { CountedAtIn g.now tree.now sat.now x from result flags.old flags.new links.old links.new
         × SameFlags (at_free ∷ []) flags.old flags.new × SameLinks (at_touched ∷ at_count ∷ []) links.old links.new }
 {
+    // taken out of g once, or each turn would read it there again
+    let d = g.detectors;
     let r = tree[x as usize].parent;
-    let first = adj_offsets[x as usize] as usize;
-    let end = adj_offsets[x as usize + 1] as usize;
+    let first = adj.offsets[x as usize] as usize;
+    let end = adj.offsets[x as usize + 1] as usize;
     let mut at = from;
     let mut found = false;
-    for neighbor in &adj[first..end] {
+    for neighbor in &adj.neighbors[first..end] {
         let e = neighbor.edge;
         let y = neighbor.other;
         let saturated = sat[e as usize];
@@ -81,12 +83,10 @@ pub fn count_at(
 }
 
 // Step 1: the counted edges, beside each its count, in the order of the m live detectors; their clusters that have one are free. Returns how many there are.
+// kept: each table by itself, so that what it leaves alone needs no clause
 pub fn count(
-    d: usize,
-    edge_u: &[u32],
-    edge_v: &[u32],
-    adj_offsets: &[u32],
-    adj: &[Neighbor],
+    g: &Graph,
+    adj: &Incidence,
     tree: &[Node],
     flags: &mut [Flags],
     stacks: &[Stack],
@@ -94,25 +94,13 @@ pub fn count(
     sat: &[bool],
     m: usize,
 ) -> usize
-    requires counting { Counting d edge_u.now edge_v.now (front stacks.now) m adj_offsets.now (near adj.now) (away adj.now) (parents tree.now) sat.now (hots flags.old) (frees flags.old) (touched links.old) (cnt links.old) }
-    ensures { Counted d edge_u.now edge_v.now (front stacks.now) m (parents tree.now) sat.now (hots flags.old) (frees flags.old) (frees flags.new) (touched links.new) (cnt links.new) result
+    requires counting { CountingIn g.now adj.now tree.now flags.old stacks.now links.old sat.now m }
+    ensures { CountedIn g.now tree.now stacks.now sat.now m result flags.old flags.new links.new
         × SameFlags (at_free ∷ []) flags.old flags.new × SameLinks (at_touched ∷ at_count ∷ []) links.old links.new }
 {
     let mut at = 0;
     for stack in &stacks[..m] {
-        at = count_at(
-            d,
-            edge_u,
-            edge_v,
-            adj_offsets,
-            adj,
-            tree,
-            flags,
-            links,
-            sat,
-            stack.front,
-            at,
-        );
+        at = count_at(g, adj, tree, flags, links, sat, stack.front, at);
     }
     at
 }

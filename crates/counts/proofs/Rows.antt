@@ -1,56 +1,86 @@
--- Laws of tables whose rows are lists: an entry read, an entry stored, and what a store keeps. Over any type, width and column.
-use Prim.Native.Nat.{ℕ, ◌<◌}
-use native.Mathlib.Omega.{arith}
-use mathlib.Core.Path.{◌≡◌, sym, ap, ◌∙◌}
+-- A field of a row stored: its column, and what is kept. A field read.
+use Prim.Native.Nat.{ℕ, zero, suc}
+use mathlib.Core.Path.{◌≡◌, refl}
 use mathlib.Core.Bool.{false}
-use mathlib.Core.List.{List, [], ◌∷◌, map}
-use lib.Dec.{eqb}
-use lib.ListN.{length, get_or, set, length-set, length-map, get_or-map}
-use lib.Seq.{get_or-set_same, get_or-set_other, map-set_same}
-use borrow.Author.Tests.{eq-eqb}
-use native.Mathlib.Decide.{ℕ_discrete}
-use Rattle.lists.proofs.Truth.{clash, or_left}
+use mathlib.Core.List.{List, [], ◌∷◌}
+use lib.ListN.{get_or, set, get_or-map}
 use Rattle.columns.specs.Columns.{among}
-use Rattle.columns.proofs.Columns.{map_set}
-use Rattle.counts.specs.Rows.{column, put, Wide, Keeps}
+use Rattle.columns.proofs.Columns.{keep_row}
+use Rattle.counts.specs.declared.Row.{Row}
+use Rattle.counts.specs.Rows.{detectors, observables, components, component_detectors, component_observables, row_column, SameRows}
 
-module _ {A : Type 0} (z : A) where
-  pub column_length : (k : ℕ) (s : List (List A)) → length (column z k s) ≡ length s
-  unfolding column
-  column_length k s = length-map s (λ r. get_or r k z)
+but_detectors : (r : Row) (v : ℕ) (k : ℕ) → among k (0 ∷ []) ≡ false → row_column k (record r { detectors = v }) ≡ row_column k r
+but_detectors r v zero h = cc
+but_detectors r v (suc zero) h = refl
+but_detectors r v (suc (suc zero)) h = refl
+but_detectors r v (suc (suc (suc zero))) h = refl
+but_detectors r v (suc (suc (suc (suc zero)))) h = refl
+but_detectors r v (suc (suc (suc (suc (suc k))))) h = refl
 
-  -- what stands in column k at d is what is read at row d, entry k
-  pub column_at : (k : ℕ) (s : List (List A)) (d : ℕ) → get_or (column z k s) d z ≡ get_or (get_or s d []) k z
-  unfolding column
-  column_at k s d = get_or-map (λ r. get_or r k z) s d []
+pub kept_detectors : (t : List Row) (x : ℕ) (v : ℕ) (z : Row) → SameRows (0 ∷ []) t (set t x (record (get_or t x z) { detectors = v }))
+kept_detectors t x v z = keep_row t x (record (get_or t x z) { detectors = v }) z (but_detectors (get_or t x z) v)
 
-  -- a row stored whole
-  pub column_row : (k : ℕ) (s : List (List A)) (d : ℕ) (r : List A) → column z k (set s d r) ≡ set (column z k s) d (get_or r k z)
-  unfolding column
-  column_row k s d r = map_set (λ r. get_or r k z) s d r
+but_observables : (r : Row) (v : ℕ) (k : ℕ) → among k (1 ∷ []) ≡ false → row_column k (record r { observables = v }) ≡ row_column k r
+but_observables r v zero h = refl
+but_observables r v (suc zero) h = cc
+but_observables r v (suc (suc zero)) h = refl
+but_observables r v (suc (suc (suc zero))) h = refl
+but_observables r v (suc (suc (suc (suc zero)))) h = refl
+but_observables r v (suc (suc (suc (suc (suc k))))) h = refl
 
-  -- an entry stored: its column, and another
-  pub put_same : {w : ℕ} (s : List (List A)) (d k : ℕ) (x : A) → Wide w s → d < length s → k < w → column z k (put s d k x) ≡ set (column z k s) d x
-  put_same s d k x t h l = column_row k s d (set (get_or s d []) k x) ∙ ap (set (column z k s) d) (get_or-set_same (get_or s d []) k x z (omega (arith, t.wide d h)))
+pub kept_observables : (t : List Row) (x : ℕ) (v : ℕ) (z : Row) → SameRows (1 ∷ []) t (set t x (record (get_or t x z) { observables = v }))
+kept_observables t x v z = keep_row t x (record (get_or t x z) { observables = v }) z (but_observables (get_or t x z) v)
 
-  pub put_other : (s : List (List A)) (d k j : ℕ) (x : A) → eqb j k ≡ false → column z j (put s d k x) ≡ column z j s
-  unfolding column
-  put_other s d k j x n = map-set_same (λ r. get_or r j z) s d (set (get_or s d []) k x) [] (get_or-set_other (get_or s d []) k j x z (λ e. clash (eq-eqb j k e) n))
+but_components : (r : Row) (v : ℕ) (k : ℕ) → among k (2 ∷ []) ≡ false → row_column k (record r { components = v }) ≡ row_column k r
+but_components r v zero h = refl
+but_components r v (suc zero) h = refl
+but_components r v (suc (suc zero)) h = cc
+but_components r v (suc (suc (suc zero))) h = refl
+but_components r v (suc (suc (suc (suc zero)))) h = refl
+but_components r v (suc (suc (suc (suc (suc k))))) h = refl
 
-pub wide_row : {A : Type 0} {w : ℕ} (s : List (List A)) (d : ℕ) (r : List A) → Wide w s → length r ≡ w → Wide w (set s d r)
-wide_row {A} {w} s d r t q = record { wide = λ e h. go e (omega (arith, length-set s d r)) (ℕ_discrete e d) }
-  where
-    go : (e : ℕ) → e < length s → Dec (e ≡ d) → length (get_or (set s d r) e []) ≡ w
-    go e h (yes f) = ap length (ap (λ (n : ℕ). get_or (set s d r) n []) f ∙ get_or-set_same s d r [] (omega arith)) ∙ q
-    go e h (no n) = ap length (get_or-set_other s d e r [] n) ∙ t.wide e h
+pub kept_components : (t : List Row) (x : ℕ) (v : ℕ) (z : Row) → SameRows (2 ∷ []) t (set t x (record (get_or t x z) { components = v }))
+kept_components t x v z = keep_row t x (record (get_or t x z) { components = v }) z (but_components (get_or t x z) v)
 
-among_one : (j k : ℕ) → among j (k ∷ []) ≡ false → eqb j k ≡ false
-among_one j k h = or_left (eqb j k) false h
+but_component_detectors : (r : Row) (v : ℕ) (k : ℕ) → among k (3 ∷ []) ≡ false → row_column k (record r { component_detectors = v }) ≡ row_column k r
+but_component_detectors r v zero h = refl
+but_component_detectors r v (suc zero) h = refl
+but_component_detectors r v (suc (suc zero)) h = refl
+but_component_detectors r v (suc (suc (suc zero))) h = cc
+but_component_detectors r v (suc (suc (suc (suc zero)))) h = refl
+but_component_detectors r v (suc (suc (suc (suc (suc k))))) h = refl
 
-module _ {A : Type 0} (z : A) {w : ℕ} where
-  pub keep_put : (s : List (List A)) (d k : ℕ) (x : A) → Wide w s → d < length s → Keeps z w (k ∷ []) s (put s d k x)
-  keep_put s d k x t h = record {
-    rows = wide_row s d (set (get_or s d []) k x) t (length-set (get_or s d []) k x ∙ t.wide d h);
-    long = length-set s d (set (get_or s d []) k x);
-    rest = λ j n. put_other z s d k j x (among_one j k n);
-  }
+pub kept_component_detectors : (t : List Row) (x : ℕ) (v : ℕ) (z : Row) → SameRows (3 ∷ []) t (set t x (record (get_or t x z) { component_detectors = v }))
+kept_component_detectors t x v z = keep_row t x (record (get_or t x z) { component_detectors = v }) z (but_component_detectors (get_or t x z) v)
+
+but_component_observables : (r : Row) (v : ℕ) (k : ℕ) → among k (4 ∷ []) ≡ false → row_column k (record r { component_observables = v }) ≡ row_column k r
+but_component_observables r v zero h = refl
+but_component_observables r v (suc zero) h = refl
+but_component_observables r v (suc (suc zero)) h = refl
+but_component_observables r v (suc (suc (suc zero))) h = refl
+but_component_observables r v (suc (suc (suc (suc zero)))) h = cc
+but_component_observables r v (suc (suc (suc (suc (suc k))))) h = refl
+
+pub kept_component_observables : (t : List Row) (x : ℕ) (v : ℕ) (z : Row) → SameRows (4 ∷ []) t (set t x (record (get_or t x z) { component_observables = v }))
+kept_component_observables t x v z = keep_row t x (record (get_or t x z) { component_observables = v }) z (but_component_observables (get_or t x z) v)
+
+-- ---- a field read, from its column
+
+-- the row that a read past the table gives
+abbrev pub no_row : Row
+no_row = record { detectors = 0; observables = 0; components = 0; component_detectors = 0; component_observables = 0 }
+
+pub read_detectors : (t : List Row) (x : ℕ) → get_or (detectors t) x 0 ≡ (get_or t x no_row).detectors
+read_detectors t x = get_or-map (λ r. r.detectors) t x no_row
+
+pub read_observables : (t : List Row) (x : ℕ) → get_or (observables t) x 0 ≡ (get_or t x no_row).observables
+read_observables t x = get_or-map (λ r. r.observables) t x no_row
+
+pub read_components : (t : List Row) (x : ℕ) → get_or (components t) x 0 ≡ (get_or t x no_row).components
+read_components t x = get_or-map (λ r. r.components) t x no_row
+
+pub read_component_detectors : (t : List Row) (x : ℕ) → get_or (component_detectors t) x 0 ≡ (get_or t x no_row).component_detectors
+read_component_detectors t x = get_or-map (λ r. r.component_detectors) t x no_row
+
+pub read_component_observables : (t : List Row) (x : ℕ) → get_or (component_observables t) x 0 ≡ (get_or t x no_row).component_observables
+read_component_observables t x = get_or-map (λ r. r.component_observables) t x no_row

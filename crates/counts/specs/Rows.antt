@@ -1,22 +1,46 @@
--- A table whose rows are lists of one width, viewed by its columns. z is what stands where there is no entry.
-use Rattle.std.specs.Prelude.{ℕ, ◌<◌, ◌≡◌, false, List, [], map, length, get_or, set}
-use Rattle.columns.specs.Columns.{among}
+-- The table of counts, and its columns.
+use Rattle.std.specs.Prelude.{ℕ, zero, suc, ◌≡◌, List, map, length, take}
+use Rattle.columns.specs.Columns.{Keeps}
+use Rattle.counts.specs.declared.Row.{Row}
+use Rattle.counts.specs.declared.Columns.{Columns}
 
-module _ {A : Type 0} where
-  -- entry k of each row
-  unfoldable pub column : A → ℕ → List (List A) → List A
-  column z k s = map (λ r. get_or r k z) s
+abbrev pub detectors : List Row → List ℕ
+detectors = map (λ r. r.detectors)
 
-  -- x at column k of row d
-  abbrev pub put : List (List A) → ℕ → ℕ → A → List (List A)
-  put s d k x = set s d (set (get_or s d []) k x)
+abbrev pub observables : List Row → List ℕ
+observables = map (λ r. r.observables)
 
--- rows of w entries each
-pub record Wide {A : Type 0} (w : ℕ) (s : List (List A)) : Type 0 where
-  pub wide : (d : ℕ) → d < length s → length (get_or s d []) ≡ w
+abbrev pub components : List Row → List ℕ
+components = map (λ r. r.components)
 
--- as many rows, of w entries each, and each column as it was but for those of ks
-pub record Keeps {A : Type 0} (z : A) (w : ℕ) (ks : List ℕ) (s s' : List (List A)) : Type 0 where
-  pub rows : Wide w s'
-  pub long : length s' ≡ length s
-  pub rest : (k : ℕ) → among k ks ≡ false → column z k s' ≡ column z k s
+abbrev pub component_detectors : List Row → List ℕ
+component_detectors = map (λ r. r.component_detectors)
+
+abbrev pub component_observables : List Row → List ℕ
+component_observables = map (λ r. r.component_observables)
+
+-- by number; there are no more
+abbrev pub row_column : ℕ → Row → ℕ
+row_column zero r = r.detectors
+row_column (suc zero) r = r.observables
+row_column (suc (suc zero)) r = r.components
+row_column (suc (suc (suc zero))) r = r.component_detectors
+row_column (suc (suc (suc (suc zero)))) r = r.component_observables
+row_column (suc (suc (suc (suc (suc k))))) r = 0
+
+-- all but the columns ks is kept
+abbrev pub SameRows : List ℕ → List Row → List Row → Type 0
+SameRows = Keeps row_column
+
+-- c has the first n rows of s, column by column, with places for more
+pub record FirstRows (n : ℕ) (s : List Row) (c : Columns) : Type 0 where
+  pub detectors_long : 1024 ≡ length c.detectors
+  pub observables_long : 1024 ≡ length c.observables
+  pub components_long : 1024 ≡ length c.components
+  pub component_detectors_long : 1024 ≡ length c.component_detectors
+  pub component_observables_long : 1024 ≡ length c.component_observables
+  pub detectors : take n c.detectors ≡ take n (detectors s)
+  pub observables : take n c.observables ≡ take n (observables s)
+  pub components : take n c.components ≡ take n (components s)
+  pub component_detectors : take n c.component_detectors ≡ take n (component_detectors s)
+  pub component_observables : take n c.component_observables ≡ take n (component_observables s)

@@ -1,49 +1,58 @@
-// The table of counts of a model that is read: a row for each mechanism and for each component, a byte for each count. An entry read and stored, a column taken out.
+// The table of counts of a model that is read: a row for each mechanism and for each component. Columns taken out.
 #![tactic(auto)]
 
-ghost use Rattle.std.specs.Prelude.{◌<◌, ◌≤◌, ◌≡◌, [], ◌∷◌, length, get_or, set, take};
-ghost use Rattle.counts.specs.Rows.{column, Wide, Keeps};
+ghost use Rattle.std.specs.Prelude.{◌≤◌, length};
+ghost use Rattle.counts.specs.Rows.{FirstRows};
 
-// The columns. Those of a mechanism: its detectors, its observables, its components.
-pub const DETECTORS: usize = 0;
-
-pub const OBSERVABLES: usize = 1;
-
-pub const COMPONENTS: usize = 2;
-
-// Those of a component.
-pub const COMPONENT_DETECTORS: usize = 3;
-
-pub const COMPONENT_OBSERVABLES: usize = 4;
-
-#[tactic(auto, using(crate::proofs::Rows::column_at))]
-pub fn count(s: &[[u8; 5]], d: usize, k: usize) -> u8
-    requires { (d < length s.now) × (k < 5) }
-    ensures { result ≡ get_or (column 0 k s.now) d 0 }
-{
-    s[d][k]
+// The counts of a mechanism: its detectors, its observables, its components. Then those of a component.
+#[repr(C)]
+#[derive(Clone, Copy)]
+pub struct Row {
+    pub detectors: u8,
+    pub observables: u8,
+    pub components: u8,
+    pub component_detectors: u8,
+    pub component_observables: u8,
 }
 
-pub fn set_count(s: &mut [[u8; 5]], d: usize, k: usize, x: u8)
-    requires { (d < length s.old) × (k < 5) }
-    ensures { (column 0 k s.new ≡ set (column 0 k s.old) d x) × Keeps 0 5 (k ∷ []) s.old s.new }
-{
-    s[d][k] = x;
+// A row of zeros, for a table that is made.
+pub const ROW: Row = Row {
+    detectors: 0,
+    observables: 0,
+    components: 0,
+    component_detectors: 0,
+    component_observables: 0,
+};
+
+// The first rows of a table, column by column, as slices can lend them.
+#[derive(Drop)]
+pub struct Columns {
+    pub detectors: [u8; 1024],
+    pub observables: [u8; 1024],
+    pub components: [u8; 1024],
+    pub component_detectors: [u8; 1024],
+    pub component_observables: [u8; 1024],
 }
 
-// The width of a row is a fact of its type: this hands it over.
-pub fn count_rows(s: &[[u8; 5]])
-    ensures { Wide 5 s.now }
-{}
-
-// The first n of a column, as a slice can lend them.
-pub fn column_of(s: &[[u8; 5]], k: usize, n: usize) -> [u8; 1024]
-    requires { (n ≤ length s.now) × (n ≤ 1024) × (k < 5) }
-    ensures { (1024 ≡ length result) × (take n result ≡ take n (column 0 k s.now)) }
+// The first n rows.
+pub fn take_columns(s: &[Row], n: usize) -> Columns
+    requires { (n ≤ length s.now) × (n ≤ 1024) }
+    ensures { FirstRows n s.now result }
 {
-    let mut out = [0u8; 1024];
-    for d in 0..n {
-        out[d] = count(s, d, k);
+    let mut out = Columns {
+        detectors: [0; 1024],
+        observables: [0; 1024],
+        components: [0; 1024],
+        component_detectors: [0; 1024],
+        component_observables: [0; 1024],
+    };
+    for i in 0..n {
+        let row = s[i];
+        out.detectors[i] = row.detectors;
+        out.observables[i] = row.observables;
+        out.components[i] = row.components;
+        out.component_detectors[i] = row.component_detectors;
+        out.component_observables[i] = row.component_observables;
     }
     out
 }

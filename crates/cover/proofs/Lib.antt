@@ -11,3 +11,4 @@ pub mod Merge
 pub mod Fresh
 pub mod Whole
 pub mod Laws
+pub mod Lent

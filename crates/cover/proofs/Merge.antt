@@ -1,4 +1,5 @@
 -- The merge of the chains: the lowest head is the next mechanism that may be a candidate.
+use Rattle.std.specs.Prelude.{Some, None}
 use Prim.Native.Nat.{ℕ, zero, suc, ◌+◌, ◌-◌, ◌<◌, ◌≤◌}
 use native.Mathlib.Decide.{dec_lt}
 use native.Mathlib.Numerals.{add-one}
@@ -14,11 +15,10 @@ use Rattle.lists.specs.Lists.{from, filter, member}
 use Rattle.lists.proofs.Truth.{case-of, clash, not_so, same_eqb}
 use Rattle.lists.proofs.Members.{map_snoc, at_member}
 use Rattle.dem.specs.Cover.{is_empty, within}
-use Rattle.cover.proofs.First.{within_all, empty_none}
+use Rattle.cover.proofs.First.{within_all}
 use Rattle.cover.specs.Kept.{detectors_at, nowhere, starts_with, lowest_from, Chains}
 use Rattle.cover.specs.Masks.{mask_of, mask_within, is_candidate, candidates_from, Rises}
 use Rattle.cover.specs.Search.{Least, Merged, Gathered}
-use Rattle.cover.proofs.ByMasks.{mask_none, empty_mask}
 use Rattle.cover.proofs.Steps.{head_in, place_of_lem, rises_at, fits_length, fits_rises, fits_at}
 use Rattle.cover.proofs.Chain.{from_miss, from_before, from_is, from_jump, filter_past, filter_hit, filter_miss}
 
@@ -50,19 +50,18 @@ module _ (ds : List ℕ) where
   not_candidate [] h = refl
   not_candidate (x ∷ l) h = not_so (within ds (x ∷ l)) (λ t. clash (same_eqb x) (h x (within_all ds (x ∷ l) t x (head_in x l))))
 
-  -- the mask tells
-  pub mask_yes : (l : List ℕ) → (mask_within ds l ≡ 0 → ⊥) → (is_candidate ds l ≡ true) × (mask_within ds l ≡ mask_of ds l)
+  -- where it has a first detector, the mask tells
+  mask_yes : (l : List ℕ) (mask d : ℕ) → Some mask ≡ mask_within ds l → starts_with d l ≡ true → (is_candidate ds l ≡ true) × (mask ≡ mask_of ds l)
   unfolding mask_within is_candidate
-  mask_yes l f = case-of (within ds l)
-      (λ t. case-of (is_empty l)
-      (λ u. absurd (f (rw t (mask_none ds l (empty_none l u)))))
-      (λ u. rw (t, u) (refl, refl)))
-      (λ t. absurd (f (rw t)))
+  mask_yes [] mask d e h = clash h refl
+  mask_yes (x ∷ l) mask d e h = case-of (within ds (x ∷ l))
+      (λ t. let k : Some mask ≡ Some (mask_of ds (x ∷ l)) = rw t at e in rw t (refl, cc))
+      (λ t. absurd (let k : Some mask ≡ None = rw t at e in cc))
 
-  pub mask_no : (l : List ℕ) → mask_within ds l ≡ 0 → is_candidate ds l ≡ false
+  mask_no : (l : List ℕ) → None ≡ mask_within ds l → is_candidate ds l ≡ false
   unfolding mask_within is_candidate
   mask_no l e = case-of (within ds l)
-      (λ t. let k : mask_of ds l ≡ 0 = rw t at e in rw (t, empty_mask ds l (within_all ds l t), k))
+      (λ t. absurd (let k : None ≡ Some (mask_of ds l) = rw t at e in cc))
       (λ t. case-of (is_empty l) (λ u. rw u) (λ u. rw (t, u)))
 
 -- ---- the merge at mechanism `at`, with `count` candidates so far
@@ -149,12 +148,12 @@ module _ (lists : ℕ → List ℕ) (n : ℕ) (ds : List ℕ) where
 
       module _ (first next : List ℕ) (c : Chains lists n first next) (w : length ds ≤ length heads) (count : ℕ) (numbers masks : List ℕ) (g : Merging at count numbers masks heads) where
         -- the lowest head is a candidate, or it is passed over
-        taken : (mask : ℕ) → count < length numbers → count < length masks → mask ≡ mask_within ds (lists (get_or heads l 0)) → (mask ≡ 0 → ⊥)
+        taken : (mask : ℕ) → count < length numbers → count < length masks → Some mask ≡ mask_within ds (lists (get_or heads l 0))
             → Merging (get_or heads l 0 + 1) (count + 1) (set numbers count (get_or heads l 0)) (set masks count mask) (set heads l (get_or next (get_or heads l 0) 0))
-        taken mask a b e z =
+        taken mask a b e =
             let k = get_or heads l 0 in
-            let y = mask_yes ds (lists k) (λ q. z (e ∙ q)) in
             let h = head_is in
+            let y = mask_yes ds (lists k) mask (get_or ds l 0) e h.2 in
             let u : take (count + 1) (set numbers count k) ≡ take count numbers ++ (k ∷ []) = rw (add-one count) (take-suc-set numbers count k a) in
             let v : take (count + 1) (set masks count mask) ≡ take count masks ++ (mask ∷ []) = rw (add-one count) (take-suc-set masks count mask b) in
             record {
@@ -166,11 +165,11 @@ module _ (lists : ℕ → List ℕ) (n : ℕ) (ds : List ℕ) where
                   ∙ append_assoc (take count numbers) (k ∷ []) (candidates_from ds lists (n - (k + 1)) (k + 1))
                   ∙ ap (λ (x : List ℕ). take count numbers ++ x) (sym (past_yes y.0)) ∙ g.numbered;
               masked =
-                  v ∙ ap₂ (λ (x : List ℕ) (q : ℕ). x ++ (q ∷ [])) g.masked (e ∙ y.1)
+                  v ∙ ap₂ (λ (x : List ℕ) (q : ℕ). x ++ (q ∷ [])) g.masked y.1
                   ∙ sym (ap (map (λ k. mask_of ds (lists k))) u ∙ map_snoc (λ k. mask_of ds (lists k)) (take count numbers) k);
             }
 
-        passed : mask_within ds (lists (get_or heads l 0)) ≡ 0 → Merging (get_or heads l 0 + 1) count numbers masks (set heads l (get_or next (get_or heads l 0) 0))
+        passed : None ≡ mask_within ds (lists (get_or heads l 0)) → Merging (get_or heads l 0 + 1) count numbers masks (set heads l (get_or next (get_or heads l 0) 0))
         passed e =
             let h = head_is in
             record {
@@ -213,13 +212,13 @@ module _ (starts counts es : List ℕ) (n : ℕ) (first next ds numbers masks : 
         pub merge_head : (at ≤ get_or heads l 0) × (get_or heads l 0 < n)
         merge_head = let h = head_is (detectors_at starts counts es) n ds r.tables.few merge_rises at heads g.low g.headed l m f in (h.0, h.1)
 
-        module _ (w : length heads ≡ 16) (mask : ℕ) (e : mask ≡ mask_within ds (detectors_at starts counts es (get_or heads l 0))) where
-          pub merge_taken : length numbers' ≡ length numbers → length masks' ≡ length masks → (mask ≡ 0 → ⊥)
+        module _ (w : length heads ≡ 16) where
+          pub merge_taken : (mask : ℕ) → Some mask ≡ mask_within ds (detectors_at starts counts es (get_or heads l 0)) → length numbers' ≡ length numbers → length masks' ≡ length masks
               → Merging (detectors_at starts counts es) n ds (get_or heads l 0 + 1) (count + 1) (set numbers' count (get_or heads l 0)) (set masks' count mask) (set heads l (get_or next (get_or heads l 0) 0))
-          merge_taken a b z =
+          merge_taken mask e a b =
               let h = merge_head in
               taken (detectors_at starts counts es) n ds r.tables.few merge_rises at heads g.low g.headed l m f first next r.chains (omega (arith, merge_few)) count numbers' masks' g mask
-              (omega (arith, g.counted, r.numbers_hold)) (omega (arith, g.counted, r.masks_hold)) e z
+              (omega (arith, g.counted, r.numbers_hold)) (omega (arith, g.counted, r.masks_hold)) e
 
-          pub merge_passed : mask ≡ 0 → Merging (detectors_at starts counts es) n ds (get_or heads l 0 + 1) count numbers' masks' (set heads l (get_or next (get_or heads l 0) 0))
-          merge_passed z = passed (detectors_at starts counts es) n ds r.tables.few merge_rises at heads g.low g.headed l m f first next r.chains (omega (arith, merge_few)) count numbers' masks' g (sym e ∙ z)
+          pub merge_passed : None ≡ mask_within ds (detectors_at starts counts es (get_or heads l 0)) → Merging (detectors_at starts counts es) n ds (get_or heads l 0 + 1) count numbers' masks' (set heads l (get_or next (get_or heads l 0) 0))
+          merge_passed e = passed (detectors_at starts counts es) n ds r.tables.few merge_rises at heads g.low g.headed l m f first next r.chains (omega (arith, merge_few)) count numbers' masks' g e

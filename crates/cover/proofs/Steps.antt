@@ -116,16 +116,20 @@ module _ (ds xs : List ℕ) (i : ℕ) (h : i < length xs) where
   mask_in j r l e = rw (take_more xs i 0 h) (mask_more 0 ds (get_or xs i 0) (take i xs) j r l e ∙ sym (mask_last ds (take i xs) (get_or xs i 0)))
 
   -- an entry that is not in ds
-  pub mask_out : member (get_or xs i 0) ds ≡ false → mask_within ds xs ≡ 0
+  pub mask_out : member (get_or xs i 0) ds ≡ false → mask_within ds xs ≡ None
   unfolding mask_within
   mask_out f = rw (not_so (within ds xs) (λ t. clash (within_all ds xs t (get_or xs i 0) (at_member xs i h)) f))
 
-pub mask_all : (ds xs : List ℕ) → within ds xs ≡ true → mask_within ds xs ≡ mask_of ds xs
+pub mask_all : (ds xs : List ℕ) → within ds xs ≡ true → mask_within ds xs ≡ Some (mask_of ds xs)
 unfolding mask_within
 mask_all ds xs e = rw e
 
+-- a list is within itself
+pub mask_self : (ds : List ℕ) → mask_within ds ds ≡ Some (mask_of ds ds)
+mask_self ds = mask_all ds ds (all_within ds ds (λ d m. m))
+
 -- all entries passed, each of them in ds
-pub mask_end : (ds xs : List ℕ) (i : ℕ) → length xs ≤ i → ((k : ℕ) → k < i → member (get_or xs k 0) ds ≡ true) → mask_of ds (take i xs) ≡ mask_within ds xs
+pub mask_end : (ds xs : List ℕ) (i : ℕ) → length xs ≤ i → ((k : ℕ) → k < i → member (get_or xs k 0) ds ≡ true) → Some (mask_of ds (take i xs)) ≡ mask_within ds xs
 mask_end ds xs i h f =
     rw (take_all i xs h)
     (sym (mask_all ds xs (all_within ds xs (λ d m. let (k, l, e) = place_of_lem d xs m in subst (λ (x : ℕ). member x ds ≡ true) e (f k (omega arith))))))

@@ -16,6 +16,7 @@ use borrow.Author.Tests.{eq-eqb, ne_eqb, eqb-true, eqb-false, not-true}
 use Rattle.lists.specs.Lists.{from, filter}
 use Rattle.lists.proofs.Truth.{case-of, and_left, and_right}
 use Rattle.dem.specs.Cover.{choose, closes}
+use Rattle.cover.specs.declared.Candidates.{Candidates}
 use Rattle.cover.specs.Masks.{Candidate, fits, cover_of}
 use Rattle.cover.specs.Search.{previous, highest, past, candidate_at, fresh_at, Outcome}
 use Rattle.cover.proofs.Ones.{ones_within, ones_pos}
@@ -88,6 +89,12 @@ unfolding previous
 previous_le p zero = omega arith
 previous_le p (suc n) = let h = previous_le p n in case-of (p n) (λ t. rw t (omega arith)) (λ f. rw f (omega arith))
 
+-- and only the numbers below n count
+pub previous_cong : (p q : ℕ → Bool) (n : ℕ) → ((i : ℕ) → i < n → p i ≡ q i) → previous p n ≡ previous q n
+unfolding previous
+previous_cong p q zero h = refl
+previous_cong p q (suc n) h = rw (h n (omega arith), previous_cong p q n (λ i l. h i (omega arith)))
+
 -- the place that was found, if any, plus one
 module _ (p : ℕ → Bool) (n : ℕ) where
   pub previous_some : (i : ℕ) → Some i ≡ highest p n → (i < n) × (i + 1 ≡ previous p n)
@@ -158,6 +165,10 @@ few_members (c ∷ cs) m o p ks e =
         omega (arith, f js refl, smaller m c.mask t, ap length q)
     go true t None f g e = g ks e
     go false t x f g e = g ks e
+
+-- the same of a struct of slices
+abbrev pub rest_of : Candidates → ℕ → List Candidate
+rest_of c = rest c.numbers.now c.masks.now c.words0.now c.words1.now c.earlier.now (length c.masks.now)
 
 -- ---- outcomes
 

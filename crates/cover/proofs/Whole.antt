@@ -14,12 +14,11 @@ use Rattle.lists.proofs.Truth.{and_right}
 use Rattle.lists.proofs.Members.{at_member, member_filter, member_below}
 use Rattle.dem.specs.Model.{Symptom, list_fits}
 use Rattle.dem.specs.Cover.{first_cover}
-use Rattle.cover.proofs.First.{all_within}
 use Rattle.cover.specs.Kept.{detectors_at, observables_at, symptom_at, kept_in, Observables}
-use Rattle.cover.specs.Masks.{mask_of, word_of, mask_within, Candidate, candidate_of, is_candidate, candidates_from, cover_of}
+use Rattle.cover.specs.Masks.{mask_of, word_of, Candidate, candidate_of, is_candidate, candidates_from, cover_of}
 use Rattle.cover.specs.Search.{candidate_at, candidates_at, fresh_at, Numbered, Worded, Gathered, Compact, Compacted, Outcome, Answered}
 use Rattle.cover.proofs.ByMasks.{by_masks}
-use Rattle.cover.proofs.Steps.{mask_all, fits_below}
+use Rattle.cover.proofs.Steps.{fits_below}
 use Rattle.cover.proofs.Turn.{few_members}
 use Rattle.cover.proofs.Fresh.{fresh_distinct}
 use Rattle.cover.proofs.Distinct.{all_distinct}
@@ -98,21 +97,19 @@ answered (Some ks) l r l' f h =
 -- the first cover is that of the candidates
 module _ (starts counts others es : List ℕ) (n : ℕ) (o : Observables starts counts others es n) (ds os : List ℕ) (k : list_fits 128 os ≡ true) where
   pub whole : first_cover (kept_in starts counts others es n) (record { detectors = ds; observables = os })
-      ≡ cover_of (map (candidate_of ds (symptom_at starts counts others es)) (candidates_from ds (detectors_at starts counts es) n 0)) (mask_within ds ds) (word_of 0 os) (word_of 64 os)
+      ≡ cover_of (map (candidate_of ds (symptom_at starts counts others es)) (candidates_from ds (detectors_at starts counts es) n 0)) (mask_of ds ds) (word_of 0 os) (word_of 64 os)
   unfolding first_cover kept_in below
   whole =
       by_masks ds (symptom_at starts counts others es) n 0 ds os (λ d m. m) (fits_below 128 os k)
       (λ i h. fits_below 128 (observables_at starts counts others es i) (o.checked i (omega arith)))
-      ∙ ap (λ (m : ℕ). cover_of (map (candidate_of ds (symptom_at starts counts others es)) (candidates_from ds (detectors_at starts counts es) n 0)) m (word_of 0 os) (word_of 64 os))
-      (sym (mask_all ds ds (all_within ds ds (λ d m. m))))
 
   -- what the search finds in the tables is the first cover
   pub found : (count : ℕ) (numbers masks words0 words1 earlier : List ℕ) → Compacted (symptom_at starts counts others es) n ds count numbers masks words0 words1 earlier
-      → (len m a b : ℕ) → len ≡ count → m ≡ mask_within ds ds → a ≡ word_of 0 os → b ≡ word_of 64 os → (l : List ℕ) → ones m ≤ length l → (r : Option ℕ) (l' : List ℕ)
-      → Outcome (cover_of (fresh_at (take count numbers) (take count masks) (take count words0) (take count words1) (take count earlier) len 0) m a b) 0 l r l'
+      → (m a b : ℕ) → m ≡ mask_of ds ds → a ≡ word_of 0 os → b ≡ word_of 64 os → (l : List ℕ) → ones m ≤ length l → (r : Option ℕ) (l' : List ℕ)
+      → Outcome (cover_of (fresh_at (take count numbers) (take count masks) (take count words0) (take count words1) (take count earlier) count 0) m a b) 0 l r l'
       → Answered (first_cover (kept_in starts counts others es n) (record { detectors = ds; observables = os })) l r l'
-  found count numbers masks words0 words1 earlier g len m a b el em ea eb l room r l' h =
-      let cs = fresh_at (take count numbers) (take count masks) (take count words0) (take count words1) (take count earlier) len 0 in
+  found count numbers masks words0 words1 earlier g m a b em ea eb l room r l' h =
+      let cs = fresh_at (take count numbers) (take count masks) (take count words0) (take count words1) (take count earlier) count 0 in
       let e = g.candidates in
       let w = whole in
       let v = fresh_distinct (take count numbers) (take count masks) (take count words0) (take count words1) (take count earlier) count (λ j k. get_or-take count earlier j 0 k ∙ g.repeats j k) in

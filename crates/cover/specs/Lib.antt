@@ -1,4 +1,5 @@
 pub mod Kept
 pub mod Masks
 pub mod Search
+pub mod Lent
 pub mod Laws

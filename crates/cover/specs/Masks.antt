@@ -1,5 +1,5 @@
 -- Detectors as the bits of a mask, observables as the bits of two words, and the first cover by them.
-use Rattle.std.specs.Prelude.{Option}
+use Rattle.std.specs.Prelude.{Option, Some, None}
 use Rattle.std.specs.Prelude.{ℕ, suc, ◌+◌, ◌*◌, ◌≤◌, List, [], ◌∷◌, Bool, cond, not, ◌&&◌, eqb, position}
 use Rattle.std.specs.Int.Bits.{bit_and, bit_xor}
 use Rattle.lists.specs.Lists.{from, filter, member}
@@ -41,10 +41,10 @@ unfoldable pub candidates_from : List ℕ → (ℕ → List ℕ) → ℕ → ℕ
 unfolding filter is_candidate from
 candidates_from ds lists n at = filter (λ k. is_candidate ds (lists k)) (from n at)
 
--- the mask of a list, and 0 where an entry is not in ds
-unfoldable pub mask_within : List ℕ → List ℕ → ℕ
+-- the mask of a list, where each entry is in ds
+unfoldable pub mask_within : List ℕ → List ℕ → Option ℕ
 unfolding within mask_of
-mask_within ds l = cond (within ds l) (mask_of ds l) 0
+mask_within ds l = cond (within ds l) (Some (mask_of ds l)) None
 
 -- strictly ascending from low on
 abbrev pub Rises : ℕ → List ℕ → Type 0

@@ -1,15 +1,55 @@
 // The first cover of a mechanism of over two detectors by the kept mechanisms.
 #![tactic(auto)]
 
-ghost use Rattle.std.specs.Prelude.{◌≡◌, true, ◌&&◌, ℕ, ◌-◌, ◌+◌, ◌<◌, ◌≤◌, length, get_or, eqb};
+ghost use Rattle.std.specs.Prelude.{◌≡◌, true, ◌&&◌, ℕ, ◌-◌, ◌<◌, ◌≤◌, length, get_or, eqb};
 ghost use Rattle.dem.specs.Model.{list_fits};
 ghost use Rattle.dem.specs.Cover.{first_cover};
-ghost use Rattle.cover.specs.Kept.{detectors_at, observables_at, symptom_at, kept_in, Detectors, Chains};
+ghost use Rattle.cover.specs.Kept.{Chains};
 ghost use Rattle.cover.specs.Masks.{word_of, mask_within, Rises, place_of, fits, cover_of};
-ghost use Rattle.cover.specs.Search.{previous, highest, equal_at, fresh_at, Room, Outcome, Answered, Least, Gathered, Merged, Numbered, Worded, Compact, Compacted, Given};
+ghost use Rattle.cover.specs.Search.{previous, highest, Outcome, Answered, Least, Gathered};
+ghost use Rattle.cover.specs.Lent.{detectors_of, observables_of, symptom_of, kept_of, HasDetectors, HasLists, DetectorsBy, fresh_of, RoomBy, MergedBy, NumberedBy, WordedBy, HasWords, equal_in, fresh_in, RoomIn, CompactBy, CompactedBy, GivenBy, SameWords, SameCandidates};
 
 // No mechanism.
+// kept: the chains are in lent tables of u32, so none is a number in them, above that of every mechanism
 const NOWHERE: u32 = 4294967295;
+
+// The lists of mechanisms in tables: where each begins in the entries, and the lengths of its two lists.
+// Each slice has a lifetime of its own: of slices lent for writing, that are lent here for a call, the checker then knows that it left them as they were.
+#[derive(Clone, Copy)]
+pub struct Lists<'s, 'd, 'o, 'e> {
+    pub starts: &'s [u32],
+    pub detector_counts: &'d [u8],
+    pub observable_counts: &'o [u8],
+    pub entries: &'e [u32],
+}
+
+// The kept mechanisms by their first detectors.
+#[derive(Clone, Copy)]
+pub struct Index<'a> {
+    pub kept: usize,
+    pub first_of: &'a [u32],
+    pub next_of: &'a [u32],
+}
+
+// The candidates for a cover.
+#[derive(Clone, Copy)]
+pub struct Candidates<'a> {
+    pub numbers: &'a [u32],
+    pub masks: &'a [u16],
+    pub words0: &'a [u64],
+    pub words1: &'a [u64],
+    pub earlier: &'a [u32],
+}
+
+// The tables that they are gathered in.
+#[derive(Drop)]
+pub struct CandidateTables<'a> {
+    pub numbers: &'a mut [u32],
+    pub masks: &'a mut [u16],
+    pub words0: &'a mut [u64],
+    pub words1: &'a mut [u64],
+    pub earlier: &'a mut [u32],
+}
 
 // Whether c is not empty and lies within m.
 #[tactic(auto, unfolding(crate::specs::Masks::fits))]
@@ -20,19 +60,16 @@ fn fits_in(m: u16, c: u16) -> bool
 }
 
 // Whether a candidate is tried: it fits, and it has no earlier equal.
+// kept: the earlier equals are in a lent table of u32, so none is a number in it, 0
 fn tries(before: u32, m: u16, c: u16) -> bool
     ensures { result ≡ (eqb before 0 && fits m c) }
 {
     before == 0 && fits_in(m, c)
 }
 
-// The first cover of the mask and the words by the candidates from start on that have no earlier equal, written from depth on. Long for its parameters, one a line.
+// The first cover of the mask and the words by the candidates from start on that have no earlier equal, written from depth on.
 fn find_cover(
-    numbers: &[u32],
-    masks: &[u16],
-    words0: &[u64],
-    words1: &[u64],
-    earlier: &[u32],
+    candidates: &Candidates,
     mask: u16,
     word0: u64,
     word1: u64,
@@ -40,8 +77,8 @@ fn find_cover(
     chosen: &mut [u32],
     depth: usize,
 ) -> Option<usize>
-    requires { Room numbers.now masks.now words0.now words1.now earlier.now mask chosen.old depth }
-    ensures { Outcome (cover_of (fresh_at numbers.now masks.now words0.now words1.now earlier.now (length masks.now - start) start) mask word0 word1) depth chosen.old result chosen.new }
+    requires { RoomBy candidates.now mask chosen.old depth }
+    ensures { Outcome (cover_of (fresh_of candidates.now (length candidates.now.masks.now - start) start) mask word0 word1) depth chosen.old result chosen.new }
 {
     if mask == 0 {
         return if word0 == 0 && word1 == 0 {
@@ -50,24 +87,24 @@ fn find_cover(
             None
         };
     }
+    let masks = candidates.masks;
+    let earlier = candidates.earlier;
     for at in start..masks.len() {
         let c = masks[at];
         if tries(earlier[at], mask, c) {
+            let left0 = word0 ^ candidates.words0[at];
+            let left1 = word1 ^ candidates.words1[at];
             let r = find_cover(
-                numbers,
-                masks,
-                words0,
-                words1,
-                earlier,
+                candidates,
                 mask ^ c,
-                word0 ^ words0[at],
-                word1 ^ words1[at],
+                left0,
+                left1,
                 at + 1,
                 chosen,
                 depth + 1,
             );
             if let Some(n) = r {
-                chosen[depth] = numbers[at];
+                chosen[depth] = candidates.numbers[at];
                 return Some(n);
             }
         }
@@ -78,22 +115,15 @@ fn find_cover(
 // ---- chains by first detector
 
 // The chains of the kept mechanisms, from the last one down.
-pub fn index_kept(
-    starts: &[u32],
-    detector_counts: &[u8],
-    entries: &[u32],
-    kept: usize,
-    first_of: &mut [u32],
-    next_of: &mut [u32],
-)
-    requires { Detectors starts.now detector_counts.now entries.now kept (length first_of.old) × (kept ≤ length next_of.old) }
-    ensures { Chains (detectors_at starts.now detector_counts.now entries.now) kept first_of.new next_of.new }
+pub fn index_kept(lists: &Lists, kept: usize, first_of: &mut [u32], next_of: &mut [u32])
+    requires { DetectorsBy lists.now kept (length first_of.old) × (kept ≤ length next_of.old) }
+    ensures { Chains (detectors_of lists.now) kept first_of.new next_of.new }
 {
     first_of.fill(NOWHERE);
     for k in (0..kept).rev() {
-        if 0 < detector_counts[k] {
-            let start = starts[k] as usize;
-            let d = entries[start] as usize;
+        if 0 < lists.detector_counts[k] {
+            let start = lists.starts[k] as usize;
+            let d = lists.entries[start] as usize;
             next_of[k] = first_of[d];
             first_of[d] = k as u32;
         }
@@ -109,19 +139,17 @@ fn place(ds: &[u32], x: u32) -> Option<usize>
     ds.iter().position(|d| *d == x)
 }
 
-// The mask of xs over ds: 0 where an entry of xs is not in ds.
-fn mask_within(ds: &[u32], xs: &[u32]) -> u16
+// The mask of xs over ds, where each entry of xs is in ds.
+fn mask_within(ds: &[u32], xs: &[u32]) -> Option<u16>
     requires { (length ds.now ≤ 16) × Rises 0 ds.now }
     ensures { result ≡ mask_within ds.now xs.now }
 {
     let mut mask: u16 = 0;
     for x in xs {
-        let Some(j) = place(ds, *x) else {
-            return 0;
-        };
+        let j = place(ds, *x)?;
         mask |= 1 << j;
     }
-    mask
+    Some(mask)
 }
 
 // The word of the observables of xs from first on.
@@ -145,6 +173,7 @@ fn heads_of(detectors: &[u32], first_of: &[u32]) -> [u32; 16]
     requires { list_fits (length first_of.now) detectors.now ≡ true }
     ensures { (i : ℕ) → i < length detectors.now → get_or result i 0 ≡ get_or first_of.now (get_or detectors.now i 0) 0 }
 {
+    // kept: a head is none as it is in the chains; so one comparison finds the lowest, and none is the lowest only where all are
     let mut heads = [NOWHERE; 16];
     for (i, d) in detectors.iter().enumerate() {
         heads[i] = first_of[*d as usize];
@@ -166,46 +195,35 @@ fn lowest_head(heads: &[u32; 16], n: usize) -> usize
     at
 }
 
-// The mask of kept mechanism k over ds.
-fn mask_of(starts: &[u32], detector_counts: &[u8], entries: &[u32], k: usize, ds: &[u32]) -> u16
-    requires { (length ds.now ≤ 16) × Rises 0 ds.now × (k < length starts.now) × (k < length detector_counts.now) × (get_or starts.now k 0 + get_or detector_counts.now k 0 ≤ length entries.now) }
-    ensures { result ≡ mask_within ds.now (detectors_at starts.now detector_counts.now entries.now k) }
+// The mask of kept mechanism k over ds, where its detectors are in ds.
+fn mask_of(lists: &Lists, k: usize, ds: &[u32]) -> Option<u16>
+    requires { (length ds.now ≤ 16) × Rises 0 ds.now × HasDetectors lists.now k }
+    ensures { result ≡ mask_within ds.now (detectors_of lists.now k) }
 {
-    let start = starts[k] as usize;
-    let end = start + detector_counts[k] as usize;
-    mask_within(ds, &entries[start..end])
+    let start = lists.starts[k] as usize;
+    let end = start + lists.detector_counts[k] as usize;
+    mask_within(ds, &lists.entries[start..end])
 }
 
 // The candidates for a cover of ds, by merging the chains of its detectors: their numbers and masks, in ascending order.
-fn gather(
-    starts: &[u32],
-    detector_counts: &[u8],
-    entries: &[u32],
-    kept: usize,
-    first_of: &[u32],
-    next_of: &[u32],
-    ds: &[u32],
-    numbers: &mut [u32],
-    masks: &mut [u16],
-) -> usize
-    requires { Merged starts.now detector_counts.now entries.now kept first_of.now next_of.now ds.now numbers.old masks.old }
-    ensures { Gathered (detectors_at starts.now detector_counts.now entries.now) kept ds.now result numbers.new masks.new }
+fn gather(lists: &Lists, index: &Index, ds: &[u32], numbers: &mut [u32], masks: &mut [u16]) -> usize
+    requires { MergedBy lists.now index.now ds.now numbers.old masks.old }
+    ensures { Gathered (detectors_of lists.now) index.now.kept ds.now result numbers.new masks.new }
 {
-    let mut heads = heads_of(ds, first_of);
+    let mut heads = heads_of(ds, index.first_of);
     let mut count = 0;
     let mut next = 0;
-    // kept: it goes from head to head, and not by an index; a `for` over 0..kept would look for a lowest head once more than this
-    while next < kept {
+    // kept: `next` goes from head to head, as no index does; a `for` over 0..kept by turns would look for one more head where the last kept mechanism was one and some other was none
+    while next < index.kept {
         let lowest = lowest_head(&heads, ds.len());
         let head = heads[lowest];
         if head == NOWHERE {
             return count;
         }
         let k = head as usize;
-        heads[lowest] = next_of[k];
+        heads[lowest] = index.next_of[k];
         next = k + 1;
-        let mask = mask_of(starts, detector_counts, entries, k, ds);
-        if mask != 0 {
+        if let Some(mask) = mask_of(lists, k, ds) {
             numbers[count] = head;
             masks[count] = mask;
             count += 1;
@@ -215,39 +233,26 @@ fn gather(
 }
 
 // The word from first on of the observables of kept mechanism k.
-fn word_at(
-    starts: &[u32],
-    detector_counts: &[u8],
-    observable_counts: &[u8],
-    entries: &[u32],
-    k: usize,
-    first: u32,
-) -> u64
-    requires { (k < length starts.now) × (k < length detector_counts.now) × (k < length observable_counts.now) × (get_or starts.now k 0 + get_or detector_counts.now k 0 + get_or observable_counts.now k 0 ≤ length entries.now) }
-    ensures { result ≡ word_of first (observables_at starts.now detector_counts.now observable_counts.now entries.now k) }
+fn word_at(lists: &Lists, k: usize, first: u32) -> u64
+    requires { HasLists lists.now k }
+    ensures { result ≡ word_of first (observables_of lists.now k) }
 {
-    let start = starts[k] as usize + detector_counts[k] as usize;
-    let end = start + observable_counts[k] as usize;
-    word_of(&entries[start..end], first)
+    let start = lists.starts[k] as usize + lists.detector_counts[k] as usize;
+    let end = start + lists.observable_counts[k] as usize;
+    word_of(&lists.entries[start..end], first)
 }
 
-// The two words of each candidate.
-fn fill_words(
-    starts: &[u32],
-    detector_counts: &[u8],
-    observable_counts: &[u8],
-    entries: &[u32],
-    numbers: &[u32],
-    words0: &mut [u64],
-    words1: &mut [u64],
-)
-    requires { Numbered starts.now detector_counts.now observable_counts.now entries.now numbers.now words0.old words1.old }
-    ensures { Worded (observables_at starts.now detector_counts.now observable_counts.now entries.now) numbers.now words0.new words1.new }
+// The two words of each of the candidates.
+fn fill_words(lists: &Lists, count: usize, c: &mut CandidateTables)
+    requires { NumberedBy lists.now count c.old }
+    ensures worded { WordedBy (observables_of lists.now) count c.new }
+    ensures kept { (c.new.numbers.now ≡ c.old.numbers.now) × (c.new.masks.now ≡ c.old.masks.now) }
+    ensures same { SameCandidates c.old c.new }
 {
-    for (i, number) in numbers.iter().enumerate() {
-        let k = *number as usize;
-        words0[i] = word_at(starts, detector_counts, observable_counts, entries, k, 0);
-        words1[i] = word_at(starts, detector_counts, observable_counts, entries, k, 64);
+    for i in 0..count {
+        let k = c.numbers[i] as usize;
+        c.words0[i] = word_at(lists, k, 0);
+        c.words1[i] = word_at(lists, k, 64);
     }
 }
 
@@ -255,33 +260,35 @@ fn fill_words(
 
 // Whether candidates i and j have equal masks and words.
 #[tactic(auto, unfolding(crate::specs::Search::equal_at))]
-fn equal_at(masks: &[u16], words0: &[u64], words1: &[u64], i: usize, j: usize) -> bool
-    requires { (i < length masks.now) × (j < length masks.now) × (length words0.now ≡ length masks.now) × (length words1.now ≡ length masks.now) }
-    ensures { result ≡ equal_at masks.now words0.now words1.now i j }
+fn equal_at(c: &CandidateTables, i: usize, j: usize) -> bool
+    requires { (i < j) × HasWords c.now j }
+    ensures { result ≡ equal_in c.now i j }
 {
-    masks[i] == masks[j] && words0[i] == words0[j] && words1[i] == words1[j]
+    c.masks[i] == c.masks[j] && c.words0[i] == c.words0[j] && c.words1[i] == c.words1[j]
 }
 
 // The place of the last candidate before j that equals it.
-fn earlier_equal(masks: &[u16], words0: &[u64], words1: &[u64], j: usize) -> Option<usize>
-    requires { (j < length masks.now) × (length words0.now ≡ length masks.now) × (length words1.now ≡ length masks.now) }
-    ensures { result ≡ highest (λ i. equal_at masks.now words0.now words1.now i j) j }
+fn earlier_equal(c: &CandidateTables, j: usize) -> Option<usize>
+    requires { HasWords c.now j }
+    ensures { result ≡ highest (λ i. equal_in c.now i j) j }
 {
     for i in (0..j).rev() {
-        if equal_at(masks, words0, words1, i, j) {
+        if equal_at(c, i, j) {
             return Some(i);
         }
     }
     None
 }
 
-// That place plus one, for every candidate; 0 where there is none.
-fn mark_earlier(masks: &[u16], words0: &[u64], words1: &[u64], earlier: &mut [u32])
-    requires { (length masks.now ≤ 16384) × (length words0.now ≡ length masks.now) × (length words1.now ≡ length masks.now) × (length masks.now ≤ length earlier.old) }
-    ensures { (j : ℕ) → j < length masks.now → get_or earlier.new j 0 ≡ previous (λ i. equal_at masks.now words0.now words1.now i j) j }
+// That place plus one, for each of the candidates; 0 where there is none.
+fn mark_earlier(count: usize, c: &mut CandidateTables)
+    requires { (count ≤ 16384) × ((j : ℕ) → j < count → HasWords c.old j) × (count ≤ length c.old.earlier.now) }
+    ensures marked { (j : ℕ) → j < count → get_or c.new.earlier.now j 0 ≡ previous (λ i. equal_in c.old i j) j }
+    ensures kept { SameWords c.old c.new }
+    ensures same { SameCandidates c.old c.new }
 {
-    for j in 0..masks.len() {
-        earlier[j] = match earlier_equal(masks, words0, words1, j) {
+    for j in 0..count {
+        c.earlier[j] = match earlier_equal(c, j) {
             Some(i) => i as u32 + 1,
             None => 0,
         };
@@ -290,99 +297,61 @@ fn mark_earlier(masks: &[u16], words0: &[u64], words1: &[u64], earlier: &mut [u3
 
 // ---- the first cover
 
-// The candidates for a cover of ds, each with its words and its earlier equal. Long for its parameters, one a line.
-fn compact(
-    starts: &[u32],
-    detector_counts: &[u8],
-    observable_counts: &[u8],
-    entries: &[u32],
-    kept: usize,
-    first_of: &[u32],
-    next_of: &[u32],
-    ds: &[u32],
-    numbers: &mut [u32],
-    masks: &mut [u16],
-    words0: &mut [u64],
-    words1: &mut [u64],
-    earlier: &mut [u32],
-) -> usize
-    requires { Compact starts.now detector_counts.now observable_counts.now entries.now kept first_of.now next_of.now ds.now numbers.old masks.old words0.old words1.old earlier.old }
-    ensures { Compacted (symptom_at starts.now detector_counts.now observable_counts.now entries.now) kept ds.now result numbers.new masks.new words0.new words1.new earlier.new }
+// The candidates for a cover of ds, each with its words and its earlier equal.
+fn compact(lists: &Lists, index: &Index, ds: &[u32], c: &mut CandidateTables) -> usize
+    requires { CompactBy lists.now index.now ds.now c.old }
+    ensures made { CompactedBy (symptom_of lists.now) index.now.kept ds.now result c.new }
+    ensures same { SameCandidates c.old c.new }
 {
-    let count = gather(
-        starts,
-        detector_counts,
-        entries,
-        kept,
-        first_of,
-        next_of,
-        ds,
-        numbers,
-        masks,
-    );
-    fill_words(
-        starts,
-        detector_counts,
-        observable_counts,
-        entries,
-        &numbers[..count],
-        words0,
-        words1,
-    );
-    mark_earlier(&masks[..count], &words0[..count], &words1[..count], earlier);
+    let count = gather(lists, index, ds, c.numbers, c.masks);
+    fill_words(lists, count, c);
+    mark_earlier(count, c);
     count
 }
 
-// The first cover of a mechanism by the kept mechanisms, its members at the front of chosen. Long for its parameters, one a line.
-pub fn partition_cover(
-    starts: &[u32],
-    detector_counts: &[u8],
-    observable_counts: &[u8],
-    entries: &[u32],
-    kept: usize,
-    first_of: &[u32],
-    next_of: &[u32],
-    detectors: &[u32],
-    observables: &[u32],
-    numbers: &mut [u32],
-    masks: &mut [u16],
-    words0: &mut [u64],
-    words1: &mut [u64],
-    earlier: &mut [u32],
+// The first cover of the mask and the words by the first n candidates of the tables.
+fn find_first(
+    c: &CandidateTables,
+    n: usize,
+    mask: u16,
+    word0: u64,
+    word1: u64,
     chosen: &mut [u32],
 ) -> Option<usize>
-    requires { Given starts.now detector_counts.now observable_counts.now entries.now kept first_of.now next_of.now detectors.now observables.now numbers.old masks.old words0.old words1.old earlier.old chosen.old }
-    ensures { Answered (first_cover (kept_in starts.now detector_counts.now observable_counts.now entries.now kept) (record { detectors = detectors.now; observables = observables.now })) chosen.old result chosen.new }
+    requires { RoomIn n c.now mask chosen.old }
+    ensures { Outcome (cover_of (fresh_in n c.now) mask word0 word1) 0 chosen.old result chosen.new }
 {
-    let n = compact(
-        starts,
-        detector_counts,
-        observable_counts,
-        entries,
-        kept,
-        first_of,
-        next_of,
-        detectors,
-        numbers,
-        masks,
-        words0,
-        words1,
-        earlier,
-    );
-    let mask = mask_within(detectors, detectors);
+    let numbers = &*c.numbers;
+    let masks = &*c.masks;
+    let words0 = &*c.words0;
+    let words1 = &*c.words1;
+    let earlier = &*c.earlier;
+    let candidates = Candidates {
+        numbers: &numbers[..n],
+        masks: &masks[..n],
+        words0: &words0[..n],
+        words1: &words1[..n],
+        earlier: &earlier[..n],
+    };
+    find_cover(&candidates, mask, word0, word1, 0, chosen, 0)
+}
+
+// The first cover of a mechanism by the kept mechanisms, its members at the front of chosen.
+pub fn partition_cover(
+    lists: &Lists,
+    index: &Index,
+    detectors: &[u32],
+    observables: &[u32],
+    c: &mut CandidateTables,
+    chosen: &mut [u32],
+) -> Option<usize>
+    requires { GivenBy lists.now index.now detectors.now observables.now c.old chosen.old }
+    ensures found { Answered (first_cover (kept_of lists.now index.now.kept) (record { detectors = detectors.now; observables = observables.now })) chosen.old result chosen.new }
+    ensures same { SameCandidates c.old c.new }
+{
+    let n = compact(lists, index, detectors, c);
+    let mask = mask_within(detectors, detectors).unwrap();
     let word0 = word_of(observables, 0);
     let word1 = word_of(observables, 64);
-    find_cover(
-        &numbers[..n],
-        &masks[..n],
-        &words0[..n],
-        &words1[..n],
-        &earlier[..n],
-        mask,
-        word0,
-        word1,
-        0,
-        chosen,
-        0,
-    )
+    find_first(c, n, mask, word0, word1, chosen)
 }

@@ -1,7 +1,7 @@
 -- What the call answers and leaves: docs/RULES.md, "Growth", "Peeling" and "Refusals".
 use Rattle.codes.specs.Order.{Checked}
-use Rattle.std.specs.Prelude.{Ok, Err}
-use Rattle.std.specs.Prelude.{ℕ, ◌≡◌, List, [], ◌∷◌, Bool, ◌&&◌, length}
+use Rattle.codes.specs.declared.Refusal.{Refusal}
+use Rattle.std.specs.Prelude.{ℕ, ◌≡◌, List, [], ◌∷◌, Bool, ◌&&◌, length, Result, Ok, Err}
 use Rattle.std.proofs.Math.Dec.{leb}
 use Rattle.bits.specs.Rows.{words}
 use Rattle.codes.specs.Codes.{Sheet, refusal_row, success_row}
@@ -12,8 +12,9 @@ use Rattle.steps.specs.Found.{by_steps, Found}
 use Rattle.scratch.specs.declared.Lengths.{Lengths}
 use Rattle.scratch.specs.Scratch.{scratch_long}
 use Rattle.lent_graph.specs.Call.{Lent, graph_in, check_call}
-use Rattle.decoder.specs.declared.Answer.{Answer}
-use Rattle.decoder.specs.declared.Answer.TheVariants as answer
+use Rattle.shot.specs.declared.Shot.{Shot}
+use Rattle.shot.specs.declared.Shot.TheVariants as shot
+use Rattle.shot.specs.Shots.{shot_of}
 
 -- what a shot decoder is handed: a graph, a shot and its width, the row and the list that it may write, and scratch slices by their lengths
 pub record Handed : Type 0 where
@@ -62,10 +63,10 @@ abbrev pub decoded_row : ℕ → ℕ → Sheet
 decoded_row rounds length = success_row (rounds ∷ length ∷ [])
 
 -- the sheet's number and values for each case of the answer
-abbrev pub sheet_of : Answer → Sheet
-sheet_of (answer.Decoded rounds length) = decoded_row rounds length
-sheet_of (answer.Stuck rounds detector) = stuck_row rounds detector
-sheet_of (answer.Refused r) = refusal_row r
+abbrev pub sheet_of : Result Shot Refusal → Sheet
+sheet_of (Ok (shot.Decoded rounds length)) = decoded_row rounds length
+sheet_of (Ok (shot.Stuck rounds detector)) = stuck_row rounds detector
+sheet_of (Err r) = refusal_row r
 
 -- and for the call: the first refusal of the check, else what the steps come to
 unfoldable pub call_row : Checked → Decoded → Sheet
@@ -76,10 +77,9 @@ call_row (Ok tt) (corrected n list) = decoded_row n (length list)
 -- ---- the answer by its cases, and what is left
 
 -- a refusal of the check, else what the steps come to: the rounds finished, with the list's length or the detector named
-unfoldable pub answer_of : Checked → Decoded → Answer
-answer_of (Err r) x = answer.Refused r
-answer_of (Ok tt) (impossible n d) = answer.Stuck n d
-answer_of (Ok tt) (corrected n list) = answer.Decoded n (length list)
+unfoldable pub answer_of : Checked → Decoded → Result Shot Refusal
+answer_of (Err r) x = Err r
+answer_of (Ok tt) x = Ok (shot_of x)
 
 -- the list: untouched after a refusal and after Stuck, else the edges peeled and then what was there
 unfoldable pub list_after : Checked → List ℕ → Decoded → List ℕ
@@ -94,7 +94,7 @@ row_after (Err r) g was x = was
 row_after (Ok tt) g was x = row_left g was x
 
 -- all that the call promises: its answer, every word of the list and of the row, and demand 3 of the graph and the shot that it was handed. What the scratch slices hold after it is free.
-pub record Decodes (h : Handed) (r : Answer) (list row : List ℕ) : Type 0 where
+pub record Decodes (h : Handed) (r : Result Shot Refusal) (list row : List ℕ) : Type 0 where
   pub sheet : sheet_of r ≡ call_row (checks h) (decoded h)
   pub answers : r ≡ answer_of (checks h) (decoded h)
   pub lists : list ≡ list_after (checks h) h.list (decoded h)

@@ -211,3 +211,8 @@ module _ {n : ℕ} {t : Tables} {room : Size} {was : Tables} {size : Size} {star
               (ap (λ (u : Tables). u.entries) e) (listed ∙ entries_are ks) grows.entries
               (f.entries ∙ ap (λ (l : List Symptom). written (take kept.entries out ++ symptom_entries l) out) lists_are)),
         )
+
+-- the same of other names for the three columns
+pub made_as : (x : Split) (old : Tables) (r : Result Counts Refusal) (ps ps' : List Float) (ds ds' os os' cs cds cos es : List ℕ) → ps' ≡ ps → ds' ≡ ds → os' ≡ os
+    → Made x old r (tables ps ds os cs cds cos es) → Made x old r (tables ps' ds' os' cs cds cos es)
+made_as x old r ps ps' ds ds' os os' cs cds cos es a b d h = rw (a, b, d) h

@@ -35,7 +35,7 @@ use Rattle.split_model.proofs.Start.{entries_are, symptom_is, kept_detectors, st
 use Rattle.split_model.proofs.Copies.{lists_long}
 use Rattle.decompose.specs.Call.{room_of, counts_of}
 use Rattle.decompose.specs.Made.{Roomy}
-use Rattle.decompose.specs.Started.{Fitting, Started}
+use Rattle.decompose.specs.Started.{Fitting, Startable, Started, Decomposable}
 
 -- ---- the entries of a checked model are few
 
@@ -237,4 +237,24 @@ module _ {n : ℕ} {t was : Tables} {starts : List ℕ} {r : Counts} {after : Ta
       counts_hold = omega (arith, ld, many_places);
       others_hold = omega (arith, lo, many_places);
       probability_hold = omega (arith, lp, many_places);
+    }
+
+-- ---- places by detector, cut to as many as there are detectors
+
+pub part_long : (D : ℕ) (xs : List ℕ) → D ≤ length xs → length (take (D - 0) (drop 0 xs)) ≡ D
+part_long D xs h = omega (arith, length-take (D - 0) (drop 0 xs), length-drop 0 xs)
+
+pub startable : {D n : ℕ} {t was : Tables} {room : Size} {starts before last first next numbers masks words0 words1 earlier : List ℕ}
+    → Decomposable D n t was room starts before last first next numbers masks words0 words1 earlier
+    → Startable n t was starts before (take (D - 0) (drop 0 last)) (take (D - 0) (drop 0 first)) next
+startable {D} {n} {t} {was} {room} {starts} {before} {last} {first} d =
+    let l = part_long D last d.last_hold in
+    record {
+      fitting = rw l d.fitting;
+      columns = d.columns;
+      lists = d.lists;
+      wide = part_long D first d.first_hold ∙ sym l;
+      starts_hold = omega (arith, d.starts_hold);
+      before_hold = omega (arith, d.before_hold);
+      next_hold = d.next_hold;
     }

@@ -9,7 +9,7 @@ use Rattle.dem.specs.Model.{ErrorMechanism, check_model}
 use Rattle.dem.specs.Tables.{Tables, model_of, components_in, entries_in, columns_hold, lists_hold, tables_hold, tables_of, tables_written, tables_zero}
 use Rattle.dem.specs.Decompose.{Places, Split, into, refused, entries_of, decompose}
 use Rattle.split_model.specs.declared.Counts.{Counts}
-use Rattle.decompose.specs.declared.Scratch.{Scratch}
+use Rattle.decompose.specs.declared.Lengths.{Lengths}
 
 -- the lent places
 abbrev pub room_of : Tables → Places
@@ -18,19 +18,34 @@ room_of was = record {
   entries = length was.entries;
 }
 
+-- the lengths of the scratch slices
+abbrev pub lengths_of : List ℕ → List ℕ → List ℕ → List ℕ → List ℕ → List ℕ → List ℕ → List ℕ → List ℕ → List ℕ → Lengths
+lengths_of starts before last first next numbers masks words0 words1 earlier = record {
+  starts = length starts;
+  before = length before;
+  last_of = length last;
+  first_of = length first;
+  next_of = length next;
+  numbers = length numbers;
+  masks = length masks;
+  words0 = length words0;
+  words1 = length words1;
+  earlier = length earlier;
+}
+
 -- a mechanism may bring 16 more: 17 entries for each, or one; or an entry for each detector
-unfoldable pub scratch_long : ℕ → ℕ → Scratch → Bool
+unfoldable pub scratch_long : ℕ → ℕ → Lengths → Bool
 scratch_long D n s =
     leb (17 * n) s.starts && (leb (17 * n) s.before && (leb D s.last_of && (leb D s.first_of
     && (leb n s.next_of && (leb n s.numbers && (leb n s.masks && (leb n s.words0 && (leb n s.words1 && leb n s.earlier))))))))
 
 -- "a table, list, output or scratch slice shorter than the counts need (for decomposition: than the model given)"
-unfoldable pub long : ℕ → ℕ → Tables → Tables → Scratch → Bool
+unfoldable pub long : ℕ → ℕ → Tables → Tables → Lengths → Bool
 unfolding scratch_long
 long D n t was s = columns_hold n was && (lists_hold (components_in n t) (entries_in n t) was && scratch_long D n s)
 
 -- the limits (1), all lengths (2), then all mechanisms in order
-unfoldable pub checked : ℕ → ℕ → ℕ → Tables → Tables → Scratch → Checked
+unfoldable pub checked : ℕ → ℕ → ℕ → Tables → Tables → Lengths → Checked
 unfolding long
 checked D O n t was s =
     and_then (check_counts D O n) (and_then (refuse_if (not (tables_hold n t && long D n t was s)) Short) (check_model D O 0 (model_of n t)))
@@ -40,7 +55,7 @@ outcome_of (Err r) x = refused r
 outcome_of (Ok tt) x = x
 
 -- what the call comes to
-unfoldable pub outcome : ℕ → ℕ → ℕ → Tables → Tables → Scratch → Split
+unfoldable pub outcome : ℕ → ℕ → ℕ → Tables → Tables → Lengths → Split
 unfolding checked
 outcome D O n t was s = outcome_of (checked D O n t was s) (decompose (room_of was) (model_of n t))
 

@@ -34,14 +34,15 @@ pub record Started (n : ℕ) (t was : Tables) (starts : List ℕ) (r : Counts) (
   pub firsts : Chains (detectors_at starts' after.detector_counts t.entries) r.mechanisms first next
 
 -- the lent places, and every scratch slice
-pub record Decomposable (n : ℕ) (t was : Tables) (room : Size) (starts before last first next numbers masks words0 words1 earlier : List ℕ) : Type 0 where
-  pub fitting : Fitting (length last) n t
+pub record Decomposable (D n : ℕ) (t was : Tables) (room : Size) (starts before last first next numbers masks words0 words1 earlier : List ℕ) : Type 0 where
+  pub fitting : Fitting D n t
   pub columns : columns_hold n was ≡ true
   pub lists : lists_hold (components_in n t) (entries_in n t) was ≡ true
   pub places : places_of room ≡ room_of was
-  pub wide : length first ≡ length last
   pub starts_hold : 17 * n ≤ length starts
   pub before_hold : 17 * n ≤ length before
+  pub last_hold : D ≤ length last
+  pub first_hold : D ≤ length first
   pub next_hold : n ≤ length next
   pub numbers_hold : n ≤ length numbers
   pub masks_hold : n ≤ length masks

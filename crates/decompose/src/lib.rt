@@ -1,23 +1,36 @@
 // docs/RULES.md, "Decomposition": a model in its tables is checked, decomposed into output tables, or refused.
 #![tactic(auto)]
 
-ghost use Rattle.std.specs.Prelude.{◌≡◌, List, ◌++◌, ℕ, ◌-◌, ◌≤◌, length, take};
-ghost use Rattle.dem.specs.Tables.{Tables, model_of, symptom_entries, tables_written, written};
-ghost use Rattle.dem.specs.Positions.{tables};
+ghost use Rattle.std.specs.Prelude.{◌≡◌, ◌++◌, ◌≤◌, length, take};
+ghost use Rattle.cover.specs.Lent.{SameCandidates};
+ghost use Rattle.dem.specs.Tables.{Tables, symptom_entries, tables_written, written};
 ghost use Rattle.dem.specs.Decompose.{kept_of, decompose};
+ghost use Rattle.dem.specs.Lent.{tables_out, SameOutput};
 ghost use Rattle.suggested.specs.Held.{places_of};
-ghost use Rattle.split_model.specs.Begun.{Begun};
-ghost use Rattle.decompose.specs.Appended.{lists_from, Appendable};
-ghost use Rattle.decompose.specs.Made.{Finished, Roomy, Made};
-ghost use Rattle.decompose.specs.Started.{Startable, Started, Decomposable};
+ghost use Rattle.decompose.specs.Made.{Made};
+ghost use Rattle.decompose.specs.Lent.{model_in, lengths_in, lists_in, AppendableIn, FinishedIn, BegunIn, RoomyIn, StartableIn, StartedIn, DecomposableIn, SameChains};
 
 use codes::Refusal;
+use cover::{CandidateTables, Index, Lists};
+use dem::{Model, Output};
 use split_model::Counts;
-use suggested::Size;
+use suggested::{Mechanisms, Size};
 
-// The lengths of the scratch slices.
+// The scratch slices, lent for writing.
+#[derive(Drop)]
+pub struct Scratch<'a> {
+    pub starts: &'a mut [u32],
+    pub before: &'a mut [u32],
+    pub last_of: &'a mut [u32],
+    pub first_of: &'a mut [u32],
+    pub next_of: &'a mut [u32],
+    pub candidates: CandidateTables<'a>,
+}
+
+// Their lengths, which a host asks for too.
+#[repr(C)]
 #[derive(Clone, Copy)]
-pub struct Scratch {
+pub struct Lengths {
     pub starts: usize,
     pub before: usize,
     pub last_of: usize,
@@ -30,6 +43,35 @@ pub struct Scratch {
     pub earlier: usize,
 }
 
+impl Scratch<'_> {
+    pub fn lengths(&self) -> Lengths
+        ensures { result ≡ lengths_in self.now }
+    {
+        Lengths {
+            starts: self.starts.len(),
+            before: self.before.len(),
+            last_of: self.last_of.len(),
+            first_of: self.first_of.len(),
+            next_of: self.next_of.len(),
+            numbers: self.candidates.numbers.len(),
+            masks: self.candidates.masks.len(),
+            words0: self.candidates.words0.len(),
+            words1: self.candidates.words1.len(),
+            earlier: self.candidates.earlier.len(),
+        }
+    }
+}
+
+// Where the lists of each mechanism begin in the entries, and the chains of mechanisms with one first detector: from the last one down, and of the kept ones from the first one up.
+#[derive(Drop)]
+struct ChainTables<'a> {
+    starts: &'a mut [u32],
+    before: &'a mut [u32],
+    last_of: &'a mut [u32],
+    first_of: &'a mut [u32],
+    next_of: &'a mut [u32],
+}
+
 // ---- the appended mechanisms
 
 // The lists of mechanisms `first` to `end`, after the first `at` entries.
@@ -37,19 +79,17 @@ fn append_lists(
     first: usize,
     end: usize,
     at: usize,
-    starts: &[u32],
-    detector_counts: &[u8],
-    observable_counts: &[u8],
+    ms: &Mechanisms,
     entries: &[u32],
     out: &mut [u32],
 )
-    requires { Appendable starts.now detector_counts.now observable_counts.now entries.now first end at out.old }
-    ensures { out.new ≡ written (take at out.old ++ symptom_entries (lists_from starts.now detector_counts.now observable_counts.now entries.now first end)) out.old }
+    requires { AppendableIn ms.now entries.now first end at out.old }
+    ensures { out.new ≡ written (take at out.old ++ symptom_entries (lists_in ms.now entries.now first end)) out.old }
 {
     let mut to = at;
     for k in first..end {
-        let start = starts[k] as usize;
-        let size = detector_counts[k] as usize + observable_counts[k] as usize;
+        let start = ms.starts[k] as usize;
+        let size = ms.detector_counts[k] as usize + ms.observable_counts[k] as usize;
         tables::copy_to(&entries[start..start + size], out, to);
         to += size;
     }
@@ -59,29 +99,18 @@ fn append_lists(
 fn finish(
     kept: Counts,
     size: Size,
-    starts: &[u32],
-    detector_counts: &[u8],
-    observable_counts: &[u8],
+    ms: &Mechanisms,
     entries: &[u32],
     component_counts: &mut [u8],
     out: &mut [u32],
 ) -> Counts
-    requires { Appendable starts.now detector_counts.now observable_counts.now entries.now kept.mechanisms size.mechanisms kept.entries out.old × (size.mechanisms ≤ length component_counts.old) }
-    ensures { Finished kept size starts.now detector_counts.now observable_counts.now entries.now component_counts.old out.old result component_counts.new out.new }
+    requires { AppendableIn ms.now entries.now kept.mechanisms size.mechanisms kept.entries out.old × (size.mechanisms ≤ length component_counts.old) }
+    ensures { FinishedIn kept size ms.now entries.now component_counts.old out.old result component_counts.new out.new }
 {
     let first = kept.mechanisms;
     let end = size.mechanisms;
     component_counts[first..end].fill(0);
-    append_lists(
-        first,
-        end,
-        kept.entries,
-        starts,
-        detector_counts,
-        observable_counts,
-        entries,
-        out,
-    );
+    append_lists(first, end, kept.entries, ms, entries, out);
     Counts {
         mechanisms: end,
         components: kept.components,
@@ -89,223 +118,99 @@ fn finish(
     }
 }
 
-// Each larger mechanism is split over the kept ones, and what was appended is written. Long for its parameters, one a line.
+// Each larger mechanism is split over the kept ones, and what was appended is written.
 fn split_kept(
-    mechanisms: usize,
+    model: &Model,
     kept: Counts,
     room: Size,
-    probability: &[f64],
-    detector_counts: &[u8],
-    observable_counts: &[u8],
-    component_counts: &[u8],
-    component_detectors: &[u8],
-    component_observables: &[u8],
-    entries: &[u32],
-    first_of: &[u32],
-    next_of: &[u32],
-    starts: &mut [u32],
-    out_probability: &mut [f64],
-    out_detector_counts: &mut [u8],
-    out_observable_counts: &mut [u8],
-    out_component_counts: &mut [u8],
-    out_entries: &mut [u32],
-    last_of: &mut [u32],
-    before: &mut [u32],
-    numbers: &mut [u32],
-    masks: &mut [u16],
-    words0: &mut [u64],
-    words1: &mut [u64],
-    earlier: &mut [u32],
+    out: &mut Output,
+    x: &mut ChainTables,
+    c: &mut CandidateTables,
 ) -> Result<Counts, Refusal>
-    requires { Begun mechanisms (tables probability.now detector_counts.now observable_counts.now component_counts.now component_detectors.now component_observables.now entries.now) kept.mechanisms (record { mechanisms = kept.mechanisms; entries = kept.entries }) room first_of.now next_of.now starts.old out_detector_counts.old out_observable_counts.old out_probability.old last_of.old before.old numbers.old masks.old words0.old words1.old earlier.old × Roomy (kept_of (model_of mechanisms (tables probability.now detector_counts.now observable_counts.now component_counts.now component_detectors.now component_observables.now entries.now))) kept room out_component_counts.old out_entries.old }
-    ensures { (was : Tables) (cds cos : List ℕ) → tables out_probability.old out_detector_counts.old out_observable_counts.old out_component_counts.old cds cos out_entries.old ≡ tables_written (kept_of (model_of mechanisms (tables probability.now detector_counts.now observable_counts.now component_counts.now component_detectors.now component_observables.now entries.now))) was → Made (decompose (places_of room) (model_of mechanisms (tables probability.now detector_counts.now observable_counts.now component_counts.now component_detectors.now component_observables.now entries.now))) was result (tables out_probability.new out_detector_counts.new out_observable_counts.new out_component_counts.new cds cos out_entries.new) }
+    requires begun { BegunIn model.now kept room out.old x.old c.old }
+    requires roomy { RoomyIn model.now kept room out.old }
+    ensures made { (was : Tables) → tables_out out.old ≡ tables_written (kept_of (model_in model.now)) was → Made (decompose (places_of room) (model_in model.now)) was result (tables_out out.new) }
+    ensures same_output { SameOutput out.old out.new }
+    ensures same_chains { SameChains x.old x.new }
+    ensures same_candidates { SameCandidates c.old c.new }
 {
     let size = Size {
         mechanisms: kept.mechanisms,
         entries: kept.entries,
     };
-    let grown = split_model::split_all(
-        mechanisms,
-        kept.mechanisms,
-        size,
-        room,
-        probability,
-        detector_counts,
-        observable_counts,
-        component_counts,
-        component_detectors,
-        component_observables,
-        entries,
-        first_of,
-        next_of,
-        starts,
-        out_detector_counts,
-        out_observable_counts,
-        out_probability,
-        last_of,
-        before,
-        numbers,
-        masks,
-        words0,
-        words1,
-        earlier,
-    )?;
+    // lent by `&mut *`: while a plain `&` of one field lives, the checker lets no other be used
+    let index = Index {
+        kept: kept.mechanisms,
+        first_of: &mut *x.first_of,
+        next_of: &mut *x.next_of,
+    };
+    let mut ms = Mechanisms {
+        starts: &mut *x.starts,
+        detector_counts: &mut *out.detector_counts,
+        observable_counts: &mut *out.observable_counts,
+        probability: &mut *out.probability,
+        last_of: &mut *x.last_of,
+        before: &mut *x.before,
+    };
+    let grown = split_model::split_all(model, &index, size, room, &mut ms, c)?;
     Ok(finish(
         kept,
         grown,
-        starts,
-        out_detector_counts,
-        out_observable_counts,
-        entries,
-        out_component_counts,
-        out_entries,
+        &ms,
+        model.entries,
+        out.component_counts,
+        out.entries,
     ))
 }
 
 // ---- a checked model
 
-// The kept mechanisms are copied, and linked by their first detectors. Long for its parameters, one a line.
-fn start(
-    mechanisms: usize,
-    probability: &[f64],
-    detector_counts: &[u8],
-    observable_counts: &[u8],
-    component_counts: &[u8],
-    component_detectors: &[u8],
-    component_observables: &[u8],
-    entries: &[u32],
-    out_probability: &mut [f64],
-    out_detector_counts: &mut [u8],
-    out_observable_counts: &mut [u8],
-    out_component_counts: &mut [u8],
-    out_component_detectors: &mut [u8],
-    out_component_observables: &mut [u8],
-    out_entries: &mut [u32],
-    starts: &mut [u32],
-    before: &mut [u32],
-    last_of: &mut [u32],
-    first_of: &mut [u32],
-    next_of: &mut [u32],
-) -> Counts
-    requires { Startable mechanisms (tables probability.now detector_counts.now observable_counts.now component_counts.now component_detectors.now component_observables.now entries.now) (tables out_probability.old out_detector_counts.old out_observable_counts.old out_component_counts.old out_component_detectors.old out_component_observables.old out_entries.old) starts.old before.old last_of.old first_of.old next_of.old }
-    ensures { Started mechanisms (tables probability.now detector_counts.now observable_counts.now component_counts.now component_detectors.now component_observables.now entries.now) (tables out_probability.old out_detector_counts.old out_observable_counts.old out_component_counts.old out_component_detectors.old out_component_observables.old out_entries.old) starts.old result (tables out_probability.new out_detector_counts.new out_observable_counts.new out_component_counts.new out_component_detectors.new out_component_observables.new out_entries.new) starts.new before.new last_of.new first_of.new next_of.new }
+// The kept mechanisms are copied, and linked by their first detectors.
+fn start(model: &Model, out: &mut Output, x: &mut ChainTables) -> Counts
+    requires { StartableIn model.now out.old x.old }
+    ensures started { StartedIn model.now out.old x.old result out.new x.new }
+    ensures same_output { SameOutput out.old out.new }
+    ensures same_chains { SameChains x.old x.new }
 {
-    let kept = split_model::copy_kept(
-        mechanisms,
-        probability,
-        detector_counts,
-        observable_counts,
-        component_counts,
-        component_detectors,
-        component_observables,
-        entries,
-        out_probability,
-        out_detector_counts,
-        out_observable_counts,
-        out_component_counts,
-        out_component_detectors,
-        out_component_observables,
-        out_entries,
-        starts,
-    );
-    last_equal::index_last(
-        starts,
-        out_detector_counts,
-        entries,
-        kept.mechanisms,
-        last_of,
-        before,
-    );
-    cover::index_kept(
-        starts,
-        out_detector_counts,
-        entries,
-        kept.mechanisms,
-        first_of,
-        next_of,
-    );
+    let kept = split_model::copy_kept(model, out, x.starts);
+    // lent as in `split_kept`
+    let lists = Lists {
+        starts: &mut *x.starts,
+        detector_counts: &mut *out.detector_counts,
+        observable_counts: &mut *out.observable_counts,
+        entries: model.entries,
+    };
+    last_equal::index_last(&lists, kept.mechanisms, x.last_of, x.before);
+    cover::index_kept(&lists, kept.mechanisms, x.first_of, x.next_of);
     kept
 }
 
-// The model is decomposed into the output tables; a refusal leaves them as they are by then. Long for its parameters, one a line.
+// The model is decomposed into the output tables; a refusal leaves them as they are by then.
+// kept: the scratch comes slice by slice: two are cut to a place for each detector, and no cut of slices in a struct that is lent was proved
 pub fn decompose_checked(
-    mechanisms: usize,
+    model: &Model,
     room: Size,
-    probability: &[f64],
-    detector_counts: &[u8],
-    observable_counts: &[u8],
-    component_counts: &[u8],
-    component_detectors: &[u8],
-    component_observables: &[u8],
-    entries: &[u32],
-    out_probability: &mut [f64],
-    out_detector_counts: &mut [u8],
-    out_observable_counts: &mut [u8],
-    out_component_counts: &mut [u8],
-    out_component_detectors: &mut [u8],
-    out_component_observables: &mut [u8],
-    out_entries: &mut [u32],
+    out: &mut Output,
     starts: &mut [u32],
     before: &mut [u32],
     last_of: &mut [u32],
     first_of: &mut [u32],
     next_of: &mut [u32],
-    numbers: &mut [u32],
-    masks: &mut [u16],
-    words0: &mut [u64],
-    words1: &mut [u64],
-    earlier: &mut [u32],
+    c: &mut CandidateTables,
 ) -> Result<Counts, Refusal>
-    requires { Decomposable mechanisms (tables probability.now detector_counts.now observable_counts.now component_counts.now component_detectors.now component_observables.now entries.now) (tables out_probability.old out_detector_counts.old out_observable_counts.old out_component_counts.old out_component_detectors.old out_component_observables.old out_entries.old) room starts.old before.old last_of.old first_of.old next_of.old numbers.old masks.old words0.old words1.old earlier.old }
-    ensures { Made (decompose (places_of room) (model_of mechanisms (tables probability.now detector_counts.now observable_counts.now component_counts.now component_detectors.now component_observables.now entries.now))) (tables out_probability.old out_detector_counts.old out_observable_counts.old out_component_counts.old out_component_detectors.old out_component_observables.old out_entries.old) result (tables out_probability.new out_detector_counts.new out_observable_counts.new out_component_counts.new out_component_detectors.new out_component_observables.new out_entries.new) }
+    requires { DecomposableIn model.now room out.old starts.old before.old last_of.old first_of.old next_of.old c.old }
+    ensures made { Made (decompose (places_of room) (model_in model.now)) (tables_out out.old) result (tables_out out.new) }
+    ensures same_output { SameOutput out.old out.new }
+    ensures same_candidates { SameCandidates c.old c.new }
 {
-    let kept = start(
-        mechanisms,
-        probability,
-        detector_counts,
-        observable_counts,
-        component_counts,
-        component_detectors,
-        component_observables,
-        entries,
-        out_probability,
-        out_detector_counts,
-        out_observable_counts,
-        out_component_counts,
-        out_component_detectors,
-        out_component_observables,
-        out_entries,
+    let d = model.detectors;
+    let mut x = ChainTables {
         starts,
         before,
-        last_of,
-        first_of,
+        last_of: &mut last_of[0..d],
+        first_of: &mut first_of[0..d],
         next_of,
-    );
-    split_kept(
-        mechanisms,
-        kept,
-        room,
-        probability,
-        detector_counts,
-        observable_counts,
-        component_counts,
-        component_detectors,
-        component_observables,
-        entries,
-        first_of,
-        next_of,
-        starts,
-        out_probability,
-        out_detector_counts,
-        out_observable_counts,
-        out_component_counts,
-        out_entries,
-        last_of,
-        before,
-        numbers,
-        masks,
-        words0,
-        words1,
-        earlier,
-    )
+    };
+    let kept = start(model, out, &mut x);
+    split_kept(model, kept, room, out, &mut x, c)
 }

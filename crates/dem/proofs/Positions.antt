@@ -18,7 +18,7 @@ use Rattle.dem.specs.declared.Place.{Place}
 use Rattle.codes.specs.Order.{Checked, and_then}
 use Rattle.dem.specs.Model.{ErrorMechanism, check_mechanism, check_model}
 use Rattle.dem.specs.Tables.{Tables, first_of, first_entries, rest_of, model_of, components_in, entries_in, columns_hold, lists_hold, tables_hold}
-use Rattle.dem.specs.Positions.{tables, head_of, tables_at, mechanism_at, place_past, Inside, place_of, tables_from, columns, total}
+use Rattle.dem.specs.Positions.{head_of, tables_at, mechanism_at, place_past, Inside, place_of, tables_from, columns, total}
 use Rattle.dem.specs.Laws.{Reached}
 use Rattle.dem.proofs.Checks.{first_of_lem}
 use Rattle.dem.proofs.Sums.{total_first, total_none, total_add, entries_total}
@@ -113,10 +113,6 @@ entries_le i n t h = let e = ap (λ (k : ℕ). entries_in k t) (up_to i n h) in 
 -- ---- tables that hold n mechanisms
 
 module _ (n : ℕ) (t : Tables) where
-  pub columns_alone : columns_hold n (tables t.probability t.detector_counts t.observable_counts t.component_counts [] [] []) ≡ columns_hold n t
-  unfolding columns_hold
-  columns_alone = refl
-
   pub lengths : columns_hold n t ≡ true
       → (n ≤ length t.probability) × (n ≤ length t.detector_counts) × (n ≤ length t.observable_counts) × (n ≤ length t.component_counts)
   unfolding columns_hold
@@ -244,18 +240,6 @@ totals_are n t a b c d e pa pb pc pd pe =
     ap₂ {C = Place} (λ (c : ℕ) (e : ℕ). record { component = c; entry = e }) q
     (rw (rw z at pb, rw z at pc, rw (y, q) at pd, rw (y, q) at pe) (sym (entries_sum n t)))
 
--- positions go by the five columns alone
-pub place_alone : (n : ℕ) (t : Tables)
-    → place_of n (columns t.detector_counts t.observable_counts t.component_counts t.component_detectors t.component_observables) ≡ place_of n t
-place_alone n t =
-    let u = columns t.detector_counts t.observable_counts t.component_counts t.component_detectors t.component_observables in
-    let q : components_in n u ≡ components_in n t = components_sum n u ∙ sym (components_sum n t) in
-    ap₂ {C = Place} (λ (c : ℕ) (e : ℕ). record { component = c; entry = e }) q (entries_sum n u ∙ rw q (sym (entries_sum n t)))
-
-pub entries_alone : (n : ℕ) (t : Tables)
-    → entries_in n (columns t.detector_counts t.observable_counts t.component_counts t.component_detectors t.component_observables) ≡ entries_in n t
-entries_alone n t = ap (λ (p : Place). p.entry) (place_alone n t)
-
 -- ---- the test, part by part
 
 pub tables_parts : (n : ℕ) (t : Tables) → tables_hold n t
@@ -264,3 +248,11 @@ pub tables_parts : (n : ℕ) (t : Tables) → tables_hold n t
     && (leb (total (take n t.component_counts)) (length t.component_observables) && leb (entries_in n t) (length t.entries))))
 unfolding tables_hold lists_hold
 tables_parts n t = rw (components_sum n t)
+
+-- positions go by the five columns alone
+pub place_alone : (n : ℕ) (t : Tables)
+    → place_of n (columns t.detector_counts t.observable_counts t.component_counts t.component_detectors t.component_observables) ≡ place_of n t
+place_alone n t =
+    let u = columns t.detector_counts t.observable_counts t.component_counts t.component_detectors t.component_observables in
+    let q : components_in n u ≡ components_in n t = components_sum n u ∙ sym (components_sum n t) in
+    ap₂ {C = Place} (λ (c : ℕ) (e : ℕ). record { component = c; entry = e }) q (entries_sum n u ∙ rw q (sym (entries_sum n t)))

@@ -1,6 +1,7 @@
 pub mod Model
 pub mod Tables
 pub mod Positions
+pub mod Lent
 pub mod Check
 pub mod Cover
 pub mod Laws

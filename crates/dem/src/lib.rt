@@ -1,8 +1,8 @@
 // docs/RULES.md, "Models": a detector error model in flat tables, read.
 #![tactic(auto)]
 
-ghost use Rattle.std.specs.Prelude.{◌≡◌, ◌+◌, ◌^◌, ◌<◌, ◌≤◌, length};
-ghost use Rattle.dem.specs.Positions.{head_at, place_past, place_of, Summed, columns, Counted};
+ghost use Rattle.std.specs.Prelude.{◌≡◌, ◌^◌, ◌≤◌, length};
+ghost use Rattle.dem.specs.Positions.{Summed};
 
 // The head of a mechanism: its probability and the lengths of its lists.
 #[derive(Clone, Copy)]
@@ -20,23 +20,31 @@ pub struct Place {
     pub entry: usize,
 }
 
-// The head of mechanism i.
-pub fn head(
-    probability: &[f64],
-    detector_counts: &[u8],
-    observable_counts: &[u8],
-    component_counts: &[u8],
-    i: usize,
-) -> Mechanism
-    requires { (i < length probability.now) × (i < length detector_counts.now) × (i < length observable_counts.now) × (i < length component_counts.now) }
-    ensures { result ≡ head_at probability.now detector_counts.now observable_counts.now component_counts.now i }
-{
-    Mechanism {
-        probability: probability[i],
-        detectors: detector_counts[i],
-        observables: observable_counts[i],
-        components: component_counts[i],
-    }
+// A model in its tables: an entry for each mechanism in the first four, for each component in the next two, and all lists in one.
+#[derive(Clone, Copy)]
+pub struct Model<'a> {
+    pub detectors: usize,
+    pub observables: usize,
+    pub mechanisms: usize,
+    pub probability: &'a [f64],
+    pub detector_counts: &'a [u8],
+    pub observable_counts: &'a [u8],
+    pub component_counts: &'a [u8],
+    pub component_detectors: &'a [u8],
+    pub component_observables: &'a [u8],
+    pub entries: &'a [u32],
+}
+
+// The tables of a model, lent for writing.
+#[derive(Drop)]
+pub struct Output<'a> {
+    pub probability: &'a mut [f64],
+    pub detector_counts: &'a mut [u8],
+    pub observable_counts: &'a mut [u8],
+    pub component_counts: &'a mut [u8],
+    pub component_detectors: &'a mut [u8],
+    pub component_observables: &'a mut [u8],
+    pub entries: &'a mut [u32],
 }
 
 // The sum of a list of bytes.
@@ -47,46 +55,55 @@ pub fn sum(counts: &[u8]) -> usize
     counts.iter().map(|c| *c as usize).sum()
 }
 
-// The place past a mechanism.
-#[tactic(auto, using(crate::proofs::Positions::past_sums), unfolding(crate::specs::Positions::place_past))]
-pub fn past(
-    head: Mechanism,
-    place: Place,
-    component_detectors: &[u8],
-    component_observables: &[u8],
-) -> Place
-    requires { (place.component + head.components ≤ length component_detectors.now) × (place.component + head.components ≤ length component_observables.now) × ((place_past head place component_detectors.now component_observables.now).entry < 2 ^ 64) }
-    ensures { result ≡ place_past head place component_detectors.now component_observables.now }
-{
-    let from = place.component;
-    let to = from + head.components as usize;
-    let own = head.detectors as usize + head.observables as usize;
-    let theirs = sum(&component_detectors[from..to]) + sum(&component_observables[from..to]);
-    Place {
-        component: to,
-        entry: place.entry + (own + theirs),
-    }
-}
+impl Model<'_> {
+    ghost use Rattle.std.specs.Prelude.{◌≡◌, ◌+◌, ◌^◌, ◌<◌, ◌≤◌, length};
+    ghost use Rattle.dem.specs.Positions.{head_of, place_of};
+    ghost use Rattle.dem.specs.Lent.{tables_of, past_in, CountedIn};
 
-// The place past the last mechanism: all components, and all entries.
-#[tactic(auto, using(crate::proofs::Positions::totals_are))]
-pub fn totals(
-    mechanisms: usize,
-    detector_counts: &[u8],
-    observable_counts: &[u8],
-    component_counts: &[u8],
-    component_detectors: &[u8],
-    component_observables: &[u8],
-) -> Place
-    requires { Counted mechanisms detector_counts.now observable_counts.now component_counts.now component_detectors.now component_observables.now }
-    ensures { result ≡ place_of mechanisms (columns detector_counts.now observable_counts.now component_counts.now component_detectors.now component_observables.now) }
-{
-    let components = sum(&component_counts[0..mechanisms]);
-    let own = sum(&detector_counts[0..mechanisms]) + sum(&observable_counts[0..mechanisms]);
-    let theirs = sum(&component_detectors[0..components])
-        + sum(&component_observables[0..components]);
-    Place {
-        component: components,
-        entry: own + theirs,
+    // The head of mechanism i.
+    pub fn head(&self, i: usize) -> Mechanism
+        requires { (i < length self.now.probability.now) × (i < length self.now.detector_counts.now) × (i < length self.now.observable_counts.now) × (i < length self.now.component_counts.now) }
+        ensures { result ≡ head_of i (tables_of self.now) }
+    {
+        Mechanism {
+            probability: self.probability[i],
+            detectors: self.detector_counts[i],
+            observables: self.observable_counts[i],
+            components: self.component_counts[i],
+        }
+    }
+
+    // The place past a mechanism.
+    #[tactic(auto, using(crate::proofs::Positions::past_sums), unfolding(crate::specs::Positions::place_past))]
+    pub fn past(&self, head: Mechanism, place: Place) -> Place
+        requires { (place.component + head.components ≤ length self.now.component_detectors.now) × (place.component + head.components ≤ length self.now.component_observables.now) × ((past_in self.now head place).entry < 2 ^ 64) }
+        ensures { result ≡ past_in self.now head place }
+    {
+        let from = place.component;
+        let to = from + head.components as usize;
+        let own = head.detectors as usize + head.observables as usize;
+        let theirs = sum(&self.component_detectors[from..to])
+            + sum(&self.component_observables[from..to]);
+        Place {
+            component: to,
+            entry: place.entry + (own + theirs),
+        }
+    }
+
+    // The place past the last mechanism: all components, and all entries.
+    #[tactic(auto, using(crate::proofs::Positions::totals_are))]
+    pub fn totals(&self) -> Place
+        requires { CountedIn self.now }
+        ensures { result ≡ place_of self.now.mechanisms (tables_of self.now) }
+    {
+        let n = self.mechanisms;
+        let components = sum(&self.component_counts[0..n]);
+        let own = sum(&self.detector_counts[0..n]) + sum(&self.observable_counts[0..n]);
+        let theirs = sum(&self.component_detectors[0..components])
+            + sum(&self.component_observables[0..components]);
+        Place {
+            component: components,
+            entry: own + theirs,
+        }
     }
 }

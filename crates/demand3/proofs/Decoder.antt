@@ -1,6 +1,6 @@
 -- The shot decoder's part of demand 3, from its promise and the marker's.
 use Rattle.codes.specs.Order.{Checked}
-use Rattle.std.specs.Prelude.{Ok}
+use Rattle.std.specs.Prelude.{Ok, Result}
 use Prim.Native.Nat.{ℕ}
 use mathlib.Core.Path.{◌≡◌, refl, sym, ap, ◌∙◌, subst}
 use mathlib.Core.List.{List, ◌++◌}
@@ -17,35 +17,36 @@ use Rattle.steps.specs.Found.{Found, by_steps, Blank, Stuck, Hands, Whole}
 use Rattle.lent_graph.specs.Call.{check_call}
 use Rattle.lent_graph.proofs.Accepts.{call_accepted}
 use Rattle.marker.specs.Answer.{marker_long, check_mark}
-use Rattle.decoder.specs.declared.Answer.{Answer}
-use Rattle.decoder.specs.declared.Answer.TheVariants as answer
+use Rattle.codes.specs.declared.Refusal.{Refusal}
+use Rattle.shot.specs.declared.Shot.{Shot}
+use Rattle.shot.specs.declared.Shot.TheVariants as answer
 use Rattle.decoder.specs.Answer.{Handed, graph_of_call, lit_of_call, own_long, checks, decoded, answer_of, list_after, row_after, Decodes}
 use Rattle.demand3.specs.Stated.{IsStuck, IsDecoded, HandsOver, StuckNames, Stated, DecoderStated}
 use Rattle.demand3.proofs.Marker.{marker_stated}
 
 -- ---- what an answer tells of the steps
 
-stuck_steps : (x : Decoded) (n d : ℕ) → answer.Stuck n d ≡ answer_of (Ok tt) x → x ≡ impossible n d
+stuck_steps : (x : Decoded) (n d : ℕ) → Ok (answer.Stuck n d) ≡ answer_of (Ok tt) x → x ≡ impossible n d
 unfolding answer_of
 stuck_steps (impossible m e) n d h = cc
 stuck_steps (corrected m list) n d h = cc
 
-pub decoded_steps : (x : Decoded) (n k : ℕ) → answer.Decoded n k ≡ answer_of (Ok tt) x → (list : List ℕ) × (x ≡ corrected n list) × (k ≡ length list)
+pub decoded_steps : (x : Decoded) (n k : ℕ) → Ok (answer.Decoded n k) ≡ answer_of (Ok tt) x → (list : List ℕ) × (x ≡ corrected n list) × (k ≡ length list)
 unfolding answer_of
 decoded_steps (impossible m e) n k h = cc
 decoded_steps (corrected m list) n k h = (list, cc, cc)
 
-steps_stuck : (n d : ℕ) → answer_of (Ok tt) (impossible n d) ≡ answer.Stuck n d
+steps_stuck : (n d : ℕ) → answer_of (Ok tt) (impossible n d) ≡ Ok (answer.Stuck n d)
 unfolding answer_of
 steps_stuck n d = refl
 
-steps_decoded : (n : ℕ) (list : List ℕ) → answer_of (Ok tt) (corrected n list) ≡ answer.Decoded n (length list)
+steps_decoded : (n : ℕ) (list : List ℕ) → answer_of (Ok tt) (corrected n list) ≡ Ok (answer.Decoded n (length list))
 unfolding answer_of
 steps_decoded n list = refl
 
 -- ---- a call that is not refused
 
-module _ (h : Handed) (r : Answer) (list row : List ℕ) (p : Decodes h r list row) (ok : checks h ≡ Ok tt) where
+module _ (h : Handed) (r : Result Shot Refusal) (list row : List ℕ) (p : Decodes h r list row) (ok : checks h ≡ Ok tt) where
   abbrev g : Graph
   g = graph_of_call h
 
@@ -121,13 +122,13 @@ module _ (h : Handed) (r : Answer) (list row : List ℕ) (p : Decodes h r list r
               (passed, j.row_is passed ∙ sym (row_is zero), j.past_row));
         }
 
-  pub hands_over : Blank (graph_of_call h) h.row → (n k : ℕ) → r ≡ answer.Decoded n k → HandsOver h n k list row
+  pub hands_over : Blank (graph_of_call h) h.row → (n k : ℕ) → r ≡ Ok (answer.Decoded n k) → HandsOver h n k list row
   unfolding list_left
   hands_over zero n k e =
       let (es, x, len) = decoded_steps (decoded h) n k (sym e ∙ answer_is (decoded h) refl) in
       subst (λ (j : ℕ). HandsOver h n j list row) (sym len) (subst (λ (s : List ℕ). HandsOver h n (length es) s row) (sym (list_is (corrected n es) x)) (over n es x zero))
 
-  stuck_names : (n d : ℕ) → r ≡ answer.Stuck n d → StuckNames h n d list row
+  stuck_names : (n d : ℕ) → r ≡ Ok (answer.Stuck n d) → StuckNames h n d list row
   unfolding list_left
   stuck_names n d e =
       let x = stuck_steps (decoded h) n d (sym e ∙ answer_is (decoded h) refl) in

@@ -12,8 +12,8 @@ use Rattle.lent_graph.specs.Call.{Lent, graph_in}
 use Rattle.marking.specs.declared.Marking.{Marking}
 use Rattle.marking.specs.declared.Marking.TheVariants as marking
 use Rattle.marker.specs.Answer.{marker_long, check_mark, Marks}
-use Rattle.decoder.specs.declared.Answer.{Answer}
-use Rattle.decoder.specs.declared.Answer.TheVariants as answer
+use Rattle.shot.specs.declared.Shot.{Shot}
+use Rattle.shot.specs.declared.Shot.TheVariants as answer
 use Rattle.decoder.specs.Answer.{Handed, graph_of_call, lit_of_call, checks, Decodes}
 
 -- ---- the shot decoder
@@ -26,11 +26,11 @@ module _ (h : Handed) where
   abbrev pub Explained : List ℕ → Type 0
   Explained es = (fit (graph_of_call h) es ≡ true) × Explains (graph_of_call h) (lit_of_call h) es
 
-  abbrev pub IsStuck : Answer → Type 0
-  IsStuck r = (n : ℕ) × (d : ℕ) × (r ≡ answer.Stuck n d)
+  abbrev pub IsStuck : Result Shot Refusal → Type 0
+  IsStuck r = (n : ℕ) × (d : ℕ) × (r ≡ Ok (answer.Stuck n d))
 
-  abbrev pub IsDecoded : Answer → Type 0
-  IsDecoded r = (n : ℕ) × (k : ℕ) × (r ≡ answer.Decoded n k)
+  abbrev pub IsDecoded : Result Shot Refusal → Type 0
+  IsDecoded r = (n : ℕ) × (k : ℕ) × (r ≡ Ok (answer.Decoded n k))
 
   -- after n rounds the decoder hands over the first k entries of the list
   pub record HandsOver (n k : ℕ) (list row : List ℕ) : Type 0 where
@@ -64,12 +64,12 @@ module _ (h : Handed) where
     -- the lowest detector of a cluster that nothing can help
     pub named : Named (graph_of_call h) (lit_of_call h) n d
 
-  pub record Stated (r : Answer) (list row : List ℕ) : Type 0 where
+  pub record Stated (r : Result Shot Refusal) (list row : List ℕ) : Type 0 where
     pub either : IsStuck r ⊎ IsDecoded r
     -- "answers Stuck exactly when no edge set flips exactly the lit detectors"
     pub exactly : IsStuck r ↔ ((es : List ℕ) → Explained es → ⊥)
-    pub decoded : (n k : ℕ) → r ≡ answer.Decoded n k → HandsOver n k list row
-    pub stuck : (n d : ℕ) → r ≡ answer.Stuck n d → StuckNames n d list row
+    pub decoded : (n k : ℕ) → r ≡ Ok (answer.Decoded n k) → HandsOver n k list row
+    pub stuck : (n d : ℕ) → r ≡ Ok (answer.Stuck n d) → StuckNames n d list row
 
 -- ---- the marker
 
@@ -93,19 +93,19 @@ module _ (l : Lent) (shot list : List ℕ) where
 -- ---- the demand
 
 -- the rounds that an answer tells
-abbrev pub rounds_told : Answer → ℕ
-rounds_told (answer.Decoded n k) = n
-rounds_told (answer.Stuck n d) = n
-rounds_told (answer.Refused r) = 0
+abbrev pub rounds_told : Result Shot Refusal → ℕ
+rounds_told (Ok (answer.Decoded n k)) = n
+rounds_told (Ok (answer.Stuck n d)) = n
+rounds_told (Err r) = 0
 
 -- the count is one number: no two answers of which the demand holds tell different ones
 abbrev pub RoundsFixed : Type 0
 RoundsFixed =
-    (h : Handed) (r r' : Answer) (list row list' row' : List ℕ) → Stated h r list row → Stated h r' list' row' → rounds_told r ≡ rounds_told r'
+    (h : Handed) (r r' : Result Shot Refusal) (list row list' row' : List ℕ) → Stated h r list row → Stated h r' list' row' → rounds_told r ≡ rounds_told r'
 
 -- of every call that is not refused, whose row began as zero
 abbrev pub DecoderStated : Type 0
-DecoderStated = (h : Handed) (r : Answer) (list row : List ℕ) → Decodes h r list row → checks h ≡ Ok tt → Blank (graph_of_call h) h.row → Stated h r list row
+DecoderStated = (h : Handed) (r : Result Shot Refusal) (list row : List ℕ) → Decodes h r list row → checks h ≡ Ok tt → Blank (graph_of_call h) h.row → Stated h r list row
 
 abbrev pub MarkerStated : Type 0
 MarkerStated =

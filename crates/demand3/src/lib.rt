@@ -2,16 +2,16 @@
 #![tactic(auto)]
 
 ghost use Rattle.std.specs.Prelude.{length};
-ghost use Rattle.scratch.specs.Scratch.{lengths_of};
-ghost use Rattle.lent_graph.specs.Call.{lent_of};
+ghost use Rattle.scratch.specs.Scratch.{lengths_in};
+ghost use Rattle.lent_graph.specs.Graph.{lent};
 ghost use Rattle.decoder.specs.Answer.{handed};
 ghost use Rattle.demand3.specs.Verified.{Fits, Follows, Verified};
 
-use adjacency::Neighbor;
-use cells::{Flags, Link, Node, Stack};
 use codes::Refusal;
-use decoder::Answer;
+use lent_graph::Graph;
 use marking::Marking;
+use scratch::Scratch;
+use shot::Shot;
 
 // The marker's answer and its row, which 128 observables fill. By value: each slice lent for writing makes the check longer.
 #[derive(Clone, Copy)]
@@ -21,34 +21,22 @@ pub struct Verdict {
 }
 
 // What the marker makes of the decoder's answer. Its row and its scratch are as long as any graph needs. Stuck and a refusal of the decoder are refusals here.
-// Long for its parameters, one a line.
+#[tactic(auto, using(crate::proofs::Verified::follows_decoded, crate::proofs::Verified::follows_stuck, crate::proofs::Verified::follows_refused))]
 fn mark_answer(
-    answer: Answer,
+    answer: Result<Shot, Refusal>,
     list: &[u32],
-    detectors: usize,
-    observables: usize,
-    edges: usize,
-    edge_u: &[u32],
-    edge_v: &[u32],
-    edge_weight: &[f64],
-    edge_obs: &[u64],
+    g: &Graph,
     shot: &[u64],
     width: usize,
 ) -> Verdict
     requires { Fits answer list.now }
-    ensures { Follows (lent_of detectors observables edges edge_u.now edge_v.now edge_weight.now edge_obs.now) shot.now width answer list.now result }
+    ensures { Follows (lent g.now) shot.now width answer list.now result }
 {
     match answer {
-        Answer::Decoded { rounds: _, length } => {
+        Ok(Shot::Decoded { length, .. }) => {
             let mut row = [0; 2];
             let marking = marker::mark(
-                detectors,
-                observables,
-                edges,
-                edge_u,
-                edge_v,
-                edge_weight,
-                edge_obs,
+                g,
                 shot,
                 width,
                 &list[0..length],
@@ -58,75 +46,28 @@ fn mark_answer(
             );
             Verdict { marking, row }
         }
-        Answer::Stuck {
-            rounds: _,
-            detector,
-        } => Verdict {
+        Ok(Shot::Stuck { detector, .. }) => Verdict {
             marking: Err(Refusal::Stuck { shot: 0, detector }),
             row: [0; 2],
         },
-        Answer::Refused(r) => Verdict {
+        Err(r) => Verdict {
             marking: Err(r),
             row: [0; 2],
         },
     }
 }
 
-// A shot decoded, and the verdict on the list that the decoder hands over. Long for its parameters, one a line.
+// A shot decoded, and the verdict on the list that the decoder hands over.
 pub fn decode_and_mark(
-    row: &mut [u64],
-    list: &mut [u32],
-    adj_offsets: &mut [u32],
-    adj: &mut [Neighbor],
-    tree: &mut [Node],
-    flags: &mut [Flags],
-    stacks: &mut [Stack],
-    links: &mut [Link],
-    growth: &mut [f64],
-    sat: &mut [bool],
-    detectors: usize,
-    observables: usize,
-    edges: usize,
-    edge_u: &[u32],
-    edge_v: &[u32],
-    edge_weight: &[f64],
-    edge_obs: &[u64],
+    g: &Graph,
     shot: &[u64],
     width: usize,
+    row: &mut [u64],
+    list: &mut [u32],
+    s: &mut Scratch,
 ) -> Verdict
-    ensures { Verified (handed (lent_of detectors observables edges edge_u.now edge_v.now edge_weight.now edge_obs.now) shot.now width row.old list.old (lengths_of (length adj_offsets.old) (length adj.old) (length tree.old) (length flags.old) (length stacks.old) (length links.old) (length growth.old) (length sat.old))) result list.new row.new }
+    ensures { Verified (handed (lent g.now) shot.now width row.old list.old (lengths_in s.old)) result list.new row.new }
 {
-    mark_answer(
-        decoder::decode_shot(
-            detectors,
-            observables,
-            edges,
-            row,
-            list,
-            adj_offsets,
-            adj,
-            tree,
-            flags,
-            stacks,
-            links,
-            growth,
-            sat,
-            edge_u,
-            edge_v,
-            edge_weight,
-            edge_obs,
-            shot,
-            width,
-        ),
-        list,
-        detectors,
-        observables,
-        edges,
-        edge_u,
-        edge_v,
-        edge_weight,
-        edge_obs,
-        shot,
-        width,
-    )
+    let answer = decoder::decode_shot(g, shot, width, row, list, s);
+    mark_answer(answer, list, g, shot, width)
 }

@@ -1,4 +1,5 @@
 pub mod Compile
 pub mod Chains
 pub mod Tables
+pub mod Lent
 pub mod Cases

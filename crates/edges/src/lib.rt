@@ -1,17 +1,35 @@
 // docs/RULES.md, "Graphs": mechanisms with the same detectors share one edge, found by a chain and written into the tables.
 #![tactic(auto)]
 
-ghost use Rattle.std.specs.Prelude.{◌≡◌, true, false, ◌&&◌, ◌+◌, ◌*◌, ◌<◌, ◌≤◌, eqb, length, set, replicate, pos};
-ghost use Rattle.std.specs.Float.{fin};
+ghost use Rattle.std.specs.Prelude.{◌≡◌, true, false, ◌&&◌, ◌+◌, ◌*◌, ◌<◌, ◌≤◌, eqb, length, set, replicate};
 ghost use Rattle.bits.specs.Rows.{words};
 ghost use Rattle.weight.specs.Weight.{weight_of};
 ghost use Rattle.codes.specs.Limits.{max_observables, max_mechanisms};
 ghost use Rattle.dem.specs.Model.{list_fits};
 ghost use Rattle.edges.specs.Compile.{obs_row};
-ghost use Rattle.edges.specs.Tables.{slices, put_row, second_end, edge_with, Room, Shares};
-ghost use Rattle.edges.specs.Chains.{chain_end, last_ends, Chained};
+ghost use Rattle.edges.specs.Tables.{slices, put_row, second_end, edge_with, Shares};
+ghost use Rattle.edges.specs.Chains.{chain_end, last_ends};
+ghost use Rattle.edges.specs.Lent.{slices_of, ChainedIn, RoomIn, SameEdges, SameScratch, Zeroed};
+
+// The tables of the edges, lent for writing: a row of words for each in the last.
+#[derive(Drop)]
+pub struct EdgeTables<'a> {
+    pub edge_u: &'a mut [u32],
+    pub edge_v: &'a mut [u32],
+    pub edge_weight: &'a mut [f64],
+    pub edge_obs: &'a mut [u64],
+}
+
+// The scratch of compiling: the probability of each edge, and the chains of edges with one first end.
+#[derive(Drop)]
+pub struct Scratch<'a> {
+    pub edge_p: &'a mut [f64],
+    pub first: &'a mut [u32],
+    pub next: &'a mut [u32],
+}
 
 // The end of a chain.
+// kept: the chains are in lent tables of u32, so their end is a number in them, above that of every edge
 pub const NONE: u32 = 4294967295;
 
 pub fn same_ends(a: u32, b: u32, u: u32, v: u32) -> bool
@@ -21,24 +39,16 @@ pub fn same_ends(a: u32, b: u32, u: u32, v: u32) -> bool
 }
 
 // The edge with these ends among the first `count`: the chain of its first end is walked.
-pub fn find_edge(
-    u: u32,
-    v: u32,
-    count: usize,
-    edge_u: &[u32],
-    edge_v: &[u32],
-    first: &[u32],
-    next: &[u32],
-) -> Option<usize>
-    requires { (u < length first.now) × (count ≤ length edge_u.now) × (count ≤ length edge_v.now) × (count ≤ length next.now) × Chained count edge_u.now edge_v.now first.now next.now }
-    ensures { result ≡ last_ends edge_u.now edge_v.now u v count }
+pub fn find_edge(u: u32, v: u32, count: usize, edges: &EdgeTables, s: &Scratch) -> Option<usize>
+    requires { (u < length s.now.first.now) × (count ≤ length edges.now.edge_u.now) × (count ≤ length edges.now.edge_v.now) × (count ≤ length s.now.next.now) × ChainedIn count edges.now s.now }
+    ensures { result ≡ last_ends edges.now.edge_u.now edges.now.edge_v.now u v count }
 {
-    let mut at = first[u as usize];
+    let mut at = s.first[u as usize];
     // kept: a walk along a chain, each next place read from a table: a `for` would need an iterator of its own
     while at != NONE {
         let e = at as usize;
-        at = next[e];
-        if same_ends(edge_u[e], edge_v[e], u, v) {
+        at = s.next[e];
+        if same_ends(edges.edge_u[e], edges.edge_v[e], u, v) {
             return Some(e);
         }
     }
@@ -65,27 +75,25 @@ pub fn write_edge(
     p: f64,
     list: &[u32],
     observables: usize,
-    edge_u: &mut [u32],
-    edge_v: &mut [u32],
-    edge_weight: &mut [f64],
-    edge_obs: &mut [u64],
+    edges: &mut EdgeTables,
     edge_p: &mut [f64],
 )
-    requires { (observables ≤ max_observables) × (list_fits observables list.now ≡ true) × (e < max_mechanisms) × (e < length edge_u.old) × (e < length edge_v.old) × (e < length edge_weight.old) × (e * words observables + words observables ≤ length edge_obs.old) × (e < length edge_p.old) }
-    ensures { slices edge_u.new edge_v.new edge_weight.new edge_obs.new edge_p.new
-        ≡ slices (set edge_u.old e u) (set edge_v.old e v) (set edge_weight.old e (weight_of p)) (put_row (words observables) e edge_obs.old (obs_row observables list.now)) (set edge_p.old e p) }
+    requires { (observables ≤ max_observables) × (list_fits observables list.now ≡ true) × (e < max_mechanisms) × (e < length edges.old.edge_u.now) × (e < length edges.old.edge_v.now) × (e < length edges.old.edge_weight.now) × (e * words observables + words observables ≤ length edges.old.edge_obs.now) × (e < length edge_p.old) }
+    ensures written { slices_of edges.new edge_p.new
+        ≡ slices (set edges.old.edge_u.now e u) (set edges.old.edge_v.now e v) (set edges.old.edge_weight.now e (weight_of p)) (put_row (words observables) e edges.old.edge_obs.now (obs_row observables list.now)) (set edge_p.old e p) }
+    ensures same { SameEdges edges.old edges.new }
 {
-    edge_u[e] = u;
-    edge_v[e] = v;
-    edge_weight[e] = weight::weight(p);
+    edges.edge_u[e] = u;
+    edges.edge_v[e] = v;
+    edges.edge_weight[e] = weight::weight(p);
     edge_p[e] = p;
     let n = bits::words(observables);
     let from = e * n;
     let to = from + n;
-    write_row(observables, list, &mut edge_obs[from..to]);
+    write_row(observables, list, &mut edges.edge_obs[from..to]);
 }
 
-// Mechanisms with the same detectors share one edge: only a strictly greater probability replaces probability and observables. Returns the number of edges. Long for its parameters, one a line.
+// Mechanisms with the same detectors share one edge: only a strictly greater probability replaces probability and observables. Returns the number of edges.
 pub fn share(
     u: u32,
     v: u32,
@@ -93,60 +101,34 @@ pub fn share(
     list: &[u32],
     observables: usize,
     count: usize,
-    edge_u: &mut [u32],
-    edge_v: &mut [u32],
-    edge_weight: &mut [f64],
-    edge_obs: &mut [u64],
-    edge_p: &mut [f64],
-    first: &mut [u32],
-    next: &mut [u32],
+    edges: &mut EdgeTables,
+    s: &mut Scratch,
 ) -> usize
-    requires { (u < length first.old) × (list_fits observables list.now ≡ true) × Room observables count (slices edge_u.old edge_v.old edge_weight.old edge_obs.old edge_p.old) next.old × Chained count edge_u.old edge_v.old first.old next.old }
-    ensures { Shares observables count (edge_with u v p list.now) result (slices edge_u.old edge_v.old edge_weight.old edge_obs.old edge_p.old) (slices edge_u.new edge_v.new edge_weight.new edge_obs.new edge_p.new)
-        × Chained result edge_u.new edge_v.new first.new next.new }
+    requires { (u < length s.old.first.now) × (list_fits observables list.now ≡ true) × RoomIn observables count edges.old s.old × ChainedIn count edges.old s.old }
+    ensures shared { Shares observables count (edge_with u v p list.now) result (slices_of edges.old s.old.edge_p.now) (slices_of edges.new s.new.edge_p.now)
+        × ChainedIn result edges.new s.new }
+    ensures same_edges { SameEdges edges.old edges.new }
+    ensures same_scratch { SameScratch s.old s.new }
 {
-    match find_edge(u, v, count, edge_u, edge_v, first, next) {
+    match find_edge(u, v, count, edges, s) {
         Some(e) => {
-            if edge_p[e] < p {
-                write_edge(
-                    e,
-                    u,
-                    v,
-                    p,
-                    list,
-                    observables,
-                    edge_u,
-                    edge_v,
-                    edge_weight,
-                    edge_obs,
-                    edge_p,
-                );
+            if s.edge_p[e] < p {
+                write_edge(e, u, v, p, list, observables, edges, s.edge_p);
             }
             count
         }
         None => {
-            write_edge(
-                count,
-                u,
-                v,
-                p,
-                list,
-                observables,
-                edge_u,
-                edge_v,
-                edge_weight,
-                edge_obs,
-                edge_p,
-            );
+            write_edge(count, u, v, p, list, observables, edges, s.edge_p);
             let a = u as usize;
-            next[count] = first[a];
-            first[a] = count as u32;
+            s.next[count] = s.first[a];
+            s.first[a] = count as u32;
             count + 1
         }
     }
 }
 
 // The second end of an edge of d detectors: the boundary where there is one.
+// kept: it goes into a lent table of u32, where the boundary is a number
 pub fn second_end(d: usize, at: usize, entries: &[u32]) -> u32
     requires { at + d ≤ length entries.now }
     ensures { result ≡ second_end d at entries.now }
@@ -159,18 +141,14 @@ pub fn second_end(d: usize, at: usize, entries: &[u32]) -> u32
 }
 
 // A refusal leaves the tables of the edges zero.
-pub fn zero_edges(
-    edge_u: &mut [u32],
-    edge_v: &mut [u32],
-    edge_weight: &mut [f64],
-    edge_obs: &mut [u64],
-)
-    ensures { (edge_u.new ≡ replicate (length edge_u.old) 0) × (edge_v.new ≡ replicate (length edge_v.old) 0) × (edge_weight.new ≡ replicate (length edge_weight.old) (fin false 0 (pos 0))) × (edge_obs.new ≡ replicate (length edge_obs.old) 0) }
+pub fn zero_edges(edges: &mut EdgeTables)
+    ensures zeroed { Zeroed edges.old edges.new }
+    ensures same { SameEdges edges.old edges.new }
 {
-    edge_u.fill(0);
-    edge_v.fill(0);
-    edge_weight.fill(0.0);
-    edge_obs.fill(0);
+    edges.edge_u.fill(0);
+    edges.edge_v.fill(0);
+    edges.edge_weight.fill(0.0);
+    edges.edge_obs.fill(0);
 }
 
 // No end begins a chain.

@@ -12,8 +12,8 @@ pub fn stuck(stacks: &[Stack], a: usize, flags: &[Flags]) -> Option<u32>
     requires { Checking (active stacks.now) a (frees flags.now) }
     ensures { result ≡ first_shut (frees flags.now) (take a (active stacks.now)) }
 {
-    for i in 0..a {
-        let r = stacks[i].active;
+    for stack in &stacks[..a] {
+        let r = stack.active;
         let free = flags[r as usize].free;
         if !free {
             return Some(r);

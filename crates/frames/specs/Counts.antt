@@ -2,13 +2,14 @@
 use Rattle.std.specs.Prelude.{Option, None, Some}
 use Rattle.std.specs.Prelude.{Result, Ok, Err}
 use Rattle.codes.specs.declared.Refusal.{Refusal}
-use Rattle.std.specs.Prelude.{ℕ, ◌+◌, List, Bool, cond, length}
+use Rattle.std.specs.Prelude.{ℕ, ◌+◌, ◌≡◌, List, Bool, cond, length}
 use Rattle.codes.specs.declared.Refusal.TheVariants as refusal
 use Rattle.hex_text.specs.Hex.{is_hex, bytes_of}
 use Rattle.dem.specs.Model.{Symptom}
 use Rattle.frames.specs.declared.Stage.TheVariants.{InModel, BetweenShots, AfterRow}
 use Rattle.frames.specs.declared.State.{State}
-use Rattle.frames.specs.Frames.{Frame, header, mechanism, component, end, row, truth, frame_of, kind_of}
+use Rattle.frames.specs.declared.Kind.{Kind}
+use Rattle.frames.specs.Frames.{Frame, header, mechanism, component, end, row, truth, frame_of, kind_of, kind_byte}
 use Rattle.frames.specs.Input.{Input, Read, next, refused, tables_read, in_order, over_capacity}
 
 -- the numbers of what was read
@@ -90,3 +91,15 @@ line_of n line =
     cond (is_hex line)
     (cond (in_order n.stage n.mechanisms (kind_of (bytes_of line))) (frame_line n (frame_of n.detectors n.observables (bytes_of line))) (Err refusal.Frame))
     (Err refusal.Frame)
+
+-- ---- an answer that brings the kind of the line with the numbers
+
+-- the answer by the numbers
+abbrev pub numbers_in : Result (Kind × State) Refusal → Result State Refusal
+numbers_in (Ok p) = Ok p.1
+numbers_in (Err r) = Err r
+
+-- the kind is that of the line
+abbrev pub KindIn : List ℕ → Result (Kind × State) Refusal → Type 0
+KindIn l (Ok p) = kind_byte p.0 ≡ kind_of l
+KindIn l (Err r) = Unit {0}

@@ -6,7 +6,7 @@ ghost use Rattle.hex_text.specs.Hex.{bytes_of};
 ghost use Rattle.frames.specs.Frames.{KindOfByte, kind_byte, kind_of, symptom_long, symptom_of, frame_of};
 ghost use Rattle.codes.specs.declared.Refusal.TheVariants as refusal;
 ghost use Rattle.frames.specs.Input.{start, in_order, at_end};
-ghost use Rattle.frames.specs.Counts.{counts_of, size_of, over_counts, capped, frame_line, line_of};
+ghost use Rattle.frames.specs.Counts.{counts_of, size_of, over_counts, capped, frame_line, line_of, numbers_in, KindIn};
 
 use codes::{Checked, Refusal};
 
@@ -242,11 +242,12 @@ fn read_frame(line: &[u8], kind: Kind, n: State) -> Result<State, Refusal>
     }
 }
 
-// The answer to a line: digits, order, kind and length (3), then what is held (1).
+// The answer to a line: digits, order, kind and length (3), then what is held (1). Its kind, with the numbers.
 #[tactic(auto, unfolding(crate::specs::Counts::line_of), using(crate::proofs::FrameKinds::no_kind))]
-pub fn next_line(line: &[u8], n: State) -> Result<State, Refusal>
+pub fn next_line(line: &[u8], n: State) -> Result<(Kind, State), Refusal>
     requires { over_counts n ≡ false }
-    ensures { result ≡ line_of n line.now }
+    ensures answers { numbers_in result ≡ line_of n line.now }
+    ensures kind { KindIn (bytes_of line.now) result }
 {
     if !hex_text::is_hex(line) || hex_text::byte_count(line) == 0 {
         return Err(Refusal::Frame);
@@ -255,7 +256,8 @@ pub fn next_line(line: &[u8], n: State) -> Result<State, Refusal>
     if !in_order(n.stage, n.mechanisms, kind) {
         return Err(Refusal::Frame);
     }
-    read_frame(line, kind, n)
+    let next = read_frame(line, kind, n)?;
+    Ok((kind, next))
 }
 
 // The end of the input: before 04 or after a 05 it is 3.

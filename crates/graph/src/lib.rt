@@ -1,50 +1,34 @@
 // docs/RULES.md, "Graphs": compiling a model to its edges.
 #![tactic(auto)]
 
-ghost use Rattle.std.specs.Prelude.{◌≡◌, false, ◌&&◌, ◌+◌, ◌<◌, ◌≤◌, leb, pos, length, replicate};
-ghost use Rattle.std.specs.Float.{fin};
-ghost use Rattle.dem.specs.Positions.{tables, mechanism_at, Inside};
-ghost use Rattle.edges.specs.Compile.{into, next as nextEdges};
-ghost use Rattle.graph.specs.Outcome.{check_slices, outcome, Compiles, Joined, Joins, ChainedBy};
-ghost use Rattle.edges.specs.Tables.{slices, Room};
-ghost use Rattle.edges.specs.Chains.{Chained};
+ghost use Rattle.std.specs.Prelude.{◌≡◌, ◌&&◌, ◌≤◌, leb, length};
+ghost use Rattle.dem.specs.Lent.{InsideIn};
+ghost use Rattle.graph.specs.Outcome.{Compiles, Joined, Joins};
+ghost use Rattle.graph.specs.Lent.{check_in, outcome_in, next_in, ChainedAfter};
+ghost use Rattle.edges.specs.Lent.{slices_of, ChainedIn, RoomIn, SameEdges, SameScratch, Zeroed};
 
 use codes::{Checked, Refusal};
-use dem::{Mechanism, Place};
+use dem::{Mechanism, Model, Place};
+use edges::{EdgeTables, Scratch};
+use lent_graph::Graph;
 
-// One mechanism: lists (5), probability (4); zero or no detectors: skipped; over two detectors (7). Long for its parameters, one a line.
+// One mechanism: lists (5), probability (4); zero or no detectors: skipped; over two detectors (7).
 fn join(
+    model: &Model,
     i: usize,
     head: Mechanism,
     place: Place,
-    detectors: usize,
-    observables: usize,
-    component_detectors: &[u8],
-    component_observables: &[u8],
-    entries: &[u32],
     count: usize,
-    edge_u: &mut [u32],
-    edge_v: &mut [u32],
-    edge_weight: &mut [f64],
-    edge_obs: &mut [u64],
-    edge_p: &mut [f64],
-    first: &mut [u32],
-    next: &mut [u32],
+    edges: &mut EdgeTables,
+    s: &mut Scratch,
 ) -> Result<usize, Refusal>
-    requires { Inside head place component_detectors.now component_observables.now entries.now × (detectors ≤ length first.old) × Room observables count (slices edge_u.old edge_v.old edge_weight.old edge_obs.old edge_p.old) next.old × Chained count edge_u.old edge_v.old first.old next.old }
-    ensures { Joins observables count (λ es. nextEdges detectors observables i (mechanism_at head place component_detectors.now component_observables.now entries.now) (into es)) result (slices edge_u.old edge_v.old edge_weight.old edge_obs.old edge_p.old) (slices edge_u.new edge_v.new edge_weight.new edge_obs.new edge_p.new)
-        × ChainedBy result (slices edge_u.new edge_v.new edge_weight.new edge_obs.new edge_p.new) first.new next.new }
+    requires { InsideIn model.now head place × (model.now.detectors ≤ length s.old.first.now) × RoomIn model.now.observables count edges.old s.old × ChainedIn count edges.old s.old }
+    ensures joined { Joins model.now.observables count (next_in model.now i head place) result (slices_of edges.old s.old.edge_p.now) (slices_of edges.new s.new.edge_p.now)
+        × ChainedAfter result edges.new s.new }
+    ensures same_edges { SameEdges edges.old edges.new }
+    ensures same_scratch { SameScratch s.old s.new }
 {
-    mechanism_check::check_mechanism(
-        detectors,
-        observables,
-        i,
-        head,
-        place,
-        component_detectors,
-        component_observables,
-        entries,
-    )?;
+    mechanism_check::check_mechanism(model, i, head, place)?;
     let p = head.probability;
     let d = head.detectors as usize;
     if p == 0.0 {
@@ -59,220 +43,90 @@ fn join(
     let at = place.entry;
     let from = at + d;
     let to = from + head.observables as usize;
-    let v = edges::second_end(d, at, entries);
+    let v = edges::second_end(d, at, model.entries);
     let n = edges::share(
-        entries[at],
+        model.entries[at],
         v,
         p,
-        &entries[from..to],
-        observables,
+        &model.entries[from..to],
+        model.observables,
         count,
-        edge_u,
-        edge_v,
-        edge_weight,
-        edge_obs,
-        edge_p,
-        first,
-        next,
+        edges,
+        s,
     );
     Ok(n)
 }
 
-fn scratch_long(
-    detectors: usize,
-    mechanisms: usize,
-    edge_p: usize,
-    first: usize,
-    next: usize,
-) -> bool
-    ensures { result ≡ (leb mechanisms edge_p && (leb detectors first && leb mechanisms next)) }
+fn scratch_long(model: &Model, s: &Scratch) -> bool
+    ensures { result ≡ (leb model.now.mechanisms (length s.now.edge_p.now) && (leb model.now.detectors (length s.now.first.now) && leb model.now.mechanisms (length s.now.next.now))) }
 {
-    mechanisms <= edge_p && detectors <= first && mechanisms <= next
+    model.mechanisms <= s.edge_p.len()
+        && model.detectors <= s.first.len()
+        && model.mechanisms <= s.next.len()
 }
 
-// The limits (1), then every slice (2). Long for its parameters, one a line.
+// The limits (1), then every slice (2).
 #[tactic(auto, unfolding(crate::specs::Outcome::check_slices, crate::specs::Outcome::slices_long))]
-fn check_slices(
-    detectors: usize,
-    observables: usize,
-    mechanisms: usize,
-    probability: &[f64],
-    detector_counts: &[u8],
-    observable_counts: &[u8],
-    component_counts: &[u8],
-    component_detectors: &[u8],
-    component_observables: &[u8],
-    entries: &[u32],
-    edge_u: &[u32],
-    edge_v: &[u32],
-    edge_weight: &[f64],
-    edge_obs: &[u64],
-    edge_p: &[f64],
-    first: &[u32],
-    next: &[u32],
-) -> Checked
-    ensures { result ≡ check_slices detectors observables mechanisms (tables probability.now detector_counts.now observable_counts.now component_counts.now component_detectors.now component_observables.now entries.now) (slices edge_u.now edge_v.now edge_weight.now edge_obs.now edge_p.now) first.now next.now }
+fn check_slices(model: &Model, edges: &EdgeTables, s: &Scratch) -> Checked
+    ensures { result ≡ check_in model.now edges.now s.now }
 {
-    codes::check_counts(detectors, observables, mechanisms)?;
-    model_tables::check_tables(
-        mechanisms,
-        probability,
-        detector_counts,
-        observable_counts,
-        component_counts,
-        component_detectors,
-        component_observables,
-        entries,
-    )?;
-    if lent_graph::tables_long(
-        observables,
-        mechanisms,
-        edge_u,
-        edge_v,
-        edge_weight,
-        edge_obs,
-    ) && scratch_long(detectors, mechanisms, edge_p.len(), first.len(), next.len())
-    {
+    codes::check_counts(model.detectors, model.observables, model.mechanisms)?;
+    model_tables::check_tables(model)?;
+    let graph = Graph {
+        detectors: model.detectors,
+        observables: model.observables,
+        edges: model.mechanisms,
+        edge_u: &*edges.edge_u,
+        edge_v: &*edges.edge_v,
+        edge_weight: &*edges.edge_weight,
+        edge_obs: &*edges.edge_obs,
+    };
+    if lent_graph::tables_long(&graph) && scratch_long(model, s) {
         Ok(())
     } else {
         Err(Refusal::Short)
     }
 }
 
-// The limits and every slice, then per mechanism in order. A refusal may leave edges in the tables. Long for its parameters, one a line.
-fn join_all(
-    detectors: usize,
-    observables: usize,
-    mechanisms: usize,
-    probability: &[f64],
-    detector_counts: &[u8],
-    observable_counts: &[u8],
-    component_counts: &[u8],
-    component_detectors: &[u8],
-    component_observables: &[u8],
-    entries: &[u32],
-    edge_u: &mut [u32],
-    edge_v: &mut [u32],
-    edge_weight: &mut [f64],
-    edge_obs: &mut [u64],
-    edge_p: &mut [f64],
-    first: &mut [u32],
-    next: &mut [u32],
-) -> Result<usize, Refusal>
-    ensures { Joined observables (outcome detectors observables mechanisms (tables probability.now detector_counts.now observable_counts.now component_counts.now component_detectors.now component_observables.now entries.now) (slices edge_u.old edge_v.old edge_weight.old edge_obs.old edge_p.old) first.old next.old) result (slices edge_u.old edge_v.old edge_weight.old edge_obs.old edge_p.old) (slices edge_u.new edge_v.new edge_weight.new edge_obs.new edge_p.new) }
+// The limits and every slice, then per mechanism in order. A refusal may leave edges in the tables.
+fn join_all(model: &Model, edges: &mut EdgeTables, s: &mut Scratch) -> Result<usize, Refusal>
+    ensures joined { Joined model.now.observables (outcome_in model.now edges.old s.old) result (slices_of edges.old s.old.edge_p.now) (slices_of edges.new s.new.edge_p.now) }
+    ensures same_edges { SameEdges edges.old edges.new }
+    ensures same_scratch { SameScratch s.old s.new }
 {
-    check_slices(
-        detectors,
-        observables,
-        mechanisms,
-        probability,
-        detector_counts,
-        observable_counts,
-        component_counts,
-        component_detectors,
-        component_observables,
-        entries,
-        edge_u,
-        edge_v,
-        edge_weight,
-        edge_obs,
-        edge_p,
-        first,
-        next,
-    )?;
-    edges::no_chains(first);
+    check_slices(model, edges, s)?;
+    edges::no_chains(s.first);
     let mut place = Place {
         component: 0,
         entry: 0,
     };
     let mut count = 0;
-    for i in 0..mechanisms {
-        let h = dem::head(
-            probability,
-            detector_counts,
-            observable_counts,
-            component_counts,
-            i,
-        );
-        count = join(
-            i,
-            h,
-            place,
-            detectors,
-            observables,
-            component_detectors,
-            component_observables,
-            entries,
-            count,
-            edge_u,
-            edge_v,
-            edge_weight,
-            edge_obs,
-            edge_p,
-            first,
-            next,
-        )?;
-        place = dem::past(h, place, component_detectors, component_observables);
+    for i in 0..model.mechanisms {
+        let h = model.head(i);
+        count = join(model, i, h, place, count, edges, s)?;
+        place = model.past(h, place);
     }
     Ok(count)
 }
 
 // A refusal leaves every table zero, whole.
-pub fn refuse(
-    r: Refusal,
-    edge_u: &mut [u32],
-    edge_v: &mut [u32],
-    edge_weight: &mut [f64],
-    edge_obs: &mut [u64],
-) -> Result<usize, Refusal>
-    ensures { (result ≡ Err r) × (edge_u.new ≡ replicate (length edge_u.old) 0) × (edge_v.new ≡ replicate (length edge_v.old) 0) × (edge_weight.new ≡ replicate (length edge_weight.old) (fin false 0 (pos 0))) × (edge_obs.new ≡ replicate (length edge_obs.old) 0) }
+pub fn refuse(r: Refusal, edges: &mut EdgeTables) -> Result<usize, Refusal>
+    ensures refused { result ≡ Err r }
+    ensures zeroed { Zeroed edges.old edges.new }
+    ensures same { SameEdges edges.old edges.new }
 {
-    edges::zero_edges(edge_u, edge_v, edge_weight, edge_obs);
+    edges::zero_edges(edges);
     Err(r)
 }
 
-// The edge graph of a model. `edge_p`, `first` and `next` are scratch: any contents, and any are left. Long for its parameters, one a line.
-pub fn from_model(
-    detectors: usize,
-    observables: usize,
-    mechanisms: usize,
-    probability: &[f64],
-    detector_counts: &[u8],
-    observable_counts: &[u8],
-    component_counts: &[u8],
-    component_detectors: &[u8],
-    component_observables: &[u8],
-    entries: &[u32],
-    edge_u: &mut [u32],
-    edge_v: &mut [u32],
-    edge_weight: &mut [f64],
-    edge_obs: &mut [u64],
-    edge_p: &mut [f64],
-    first: &mut [u32],
-    next: &mut [u32],
-) -> Result<usize, Refusal>
-    ensures { Compiles detectors observables (outcome detectors observables mechanisms (tables probability.now detector_counts.now observable_counts.now component_counts.now component_detectors.now component_observables.now entries.now) (slices edge_u.old edge_v.old edge_weight.old edge_obs.old edge_p.old) first.old next.old) result (slices edge_u.old edge_v.old edge_weight.old edge_obs.old edge_p.old) (slices edge_u.new edge_v.new edge_weight.new edge_obs.new edge_p.new) }
+// The edge graph of a model. The scratch may hold anything, and anything is left in it.
+pub fn from_model(model: &Model, edges: &mut EdgeTables, s: &mut Scratch) -> Result<usize, Refusal>
+    ensures compiles { Compiles model.now.detectors model.now.observables (outcome_in model.now edges.old s.old) result (slices_of edges.old s.old.edge_p.now) (slices_of edges.new s.new.edge_p.now) }
+    ensures same_edges { SameEdges edges.old edges.new }
+    ensures same_scratch { SameScratch s.old s.new }
 {
-    match join_all(
-        detectors,
-        observables,
-        mechanisms,
-        probability,
-        detector_counts,
-        observable_counts,
-        component_counts,
-        component_detectors,
-        component_observables,
-        entries,
-        edge_u,
-        edge_v,
-        edge_weight,
-        edge_obs,
-        edge_p,
-        first,
-        next,
-    ) {
+    match join_all(model, edges, s) {
         Ok(n) => Ok(n),
-        Err(r) => refuse(r, edge_u, edge_v, edge_weight, edge_obs),
+        Err(r) => refuse(r, edges),
     }
 }

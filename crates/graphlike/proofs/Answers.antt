@@ -5,32 +5,34 @@ use native.Mathlib.Omega.{arith}
 use mathlib.Core.Path.{◌≡◌, refl, sym, ap, ◌∙◌}
 use mathlib.Core.List.{List, [], ◌∷◌}
 use mathlib.Core.Bool.{Bool, true, not, ◌&&◌}
-use lib.ListN.{length, get_or, take, drop, length-take, length-drop}
+use lib.ListN.{length, get_or}
 use lib.Dec.{leb}
 use Rattle.std.proofs.Math.Bool.{and_assoc}
 use Rattle.std.proofs.lemmas.Bool.Decides.{nat_tests}
 use Rattle.lists.proofs.Truth.{and_left, and_right}
 use Rattle.codes.specs.declared.Refusal.{Refusal}
 use Rattle.codes.specs.declared.Refusal.TheVariants.{Short}
-use Rattle.codes.specs.Order.{refuse_if, and_then}
+use Rattle.codes.specs.Order.{Checked, refuse_if, and_then}
 use Rattle.codes.specs.Limits.{check_counts}
 use Rattle.dem.specs.Model.{Symptom, ErrorMechanism, list_fits, symptom_fits, symptoms_fit, lists_fit, check_model}
 use Rattle.dem.specs.Tables.{Tables, model_of, components_in, entries_in, columns_hold, lists_hold, tables_hold, tables_zero}
 use Rattle.dem.specs.Decompose.{Split, into, refused, decompose}
 use Rattle.dem.proofs.Accepted.{model_fits}
 use Rattle.codes.proofs.Checks.{then_accepted, unless_accepted, counts_within}
+use Rattle.dem.specs.declared.Output.{Output}
 use Rattle.dem.specs.declared.Place.{Place}
-use Rattle.dem.specs.Positions.{columns, place_of}
-use Rattle.dem.proofs.Laws.{laws, count}
+use Rattle.dem.specs.Lent.{tables_out, SameOutput}
+use Rattle.dem.specs.Positions.{place_of}
+use Rattle.dem.proofs.Laws.{count}
 use Rattle.cover.proofs.Steps.{fits_wider}
 use Rattle.suggested.specs.declared.Size.{Size}
 use Rattle.suggested.specs.Held.{places_of}
 use Rattle.split_model.specs.declared.Counts.{Counts}
-use Rattle.decompose.specs.declared.Scratch.{Scratch}
-use Rattle.decompose.specs.Call.{room_of, scratch_long, long, checked, outcome, sheet_of, call_row, answer_of, Decomposes}
+use Rattle.decompose.specs.declared.Lengths.{Lengths}
+use Rattle.decompose.specs.Call.{room_of, lengths_of, scratch_long, long, checked, outcome, sheet_of, call_row, answer_of, Decomposes}
 use Rattle.decompose.specs.Made.{Made}
 use Rattle.decompose.specs.Started.{Decomposable}
-use Rattle.graphlike.specs.Lent.{scratch_of, Lent}
+use Rattle.graphlike.specs.Lent.{Lent}
 
 -- ---- a model within fewer observables is within their limit
 
@@ -61,21 +63,20 @@ lists_wider D O l m h =
 -- ---- the check
 
 -- the model's tables hold it, and x is what the output tables' lengths say and y what those of the scratch slices say
-pub by_lengths : (D O n : ℕ) (t was : Tables) (s : Scratch) → check_counts D O n ≡ Ok tt → tables_hold n t ≡ true → (x y : Bool) (end : Place)
-    → end ≡ place_of n (columns t.detector_counts t.observable_counts t.component_counts t.component_detectors t.component_observables)
+pub by_lengths : (D O n : ℕ) (t was : Tables) (s : Lengths) → check_counts D O n ≡ Ok tt → tables_hold n t ≡ true → (x y : Bool) (end : Place)
+    → end ≡ place_of n t
     → x ≡ (columns_hold n was && lists_hold end.component end.entry was) → y ≡ scratch_long D n s
     → checked D O n t was s ≡ and_then (refuse_if (not (x && y)) Short) (check_model D O 0 (model_of n t))
 unfolding checked long
 by_lengths D O n t was s a h x y end e p q =
-    let w : end ≡ place_of n t = e ∙ laws.place_alone n t in
-    let z : x ≡ (columns_hold n was && lists_hold (components_in n t) (entries_in n t) was) = p ∙ ap (λ (u : Place). columns_hold n was && lists_hold u.component u.entry was) w in
+    let z : x ≡ (columns_hold n was && lists_hold (components_in n t) (entries_in n t) was) = p ∙ ap (λ (u : Place). columns_hold n was && lists_hold u.component u.entry was) e in
     rw (a, h, z, q)
     (ap (λ (v : Bool). and_then (refuse_if (not v) Short) (check_model D O 0 (model_of n t)))
     (sym (and_assoc (columns_hold n was) (lists_hold (components_in n t) (entries_in n t) was) (scratch_long D n s))))
 
 -- ---- what an accepted call was lent
 
-pub lent : (D O n : ℕ) (t was : Tables) (s : Scratch) → checked D O n t was s ≡ Ok tt → Lent D n t was s
+pub lent : (D O n : ℕ) (t was : Tables) (s : Lengths) → checked D O n t was s ≡ Ok tt → Lent D n t was s
 unfolding checked long
 lent D O n t was s e =
     let (counts, p) = then_accepted _ _ e in
@@ -100,7 +101,7 @@ lent D O n t was s e =
 -- ---- the slices of an accepted model
 
 -- each scratch slice is long enough
-pub record Long (D n : ℕ) (s : Scratch) : Type 0 where
+pub record Long (D n : ℕ) (s : Lengths) : Type 0 where
   pub starts : 17 * n ≤ s.starts
   pub before : 17 * n ≤ s.before
   pub last_of : D ≤ s.last_of
@@ -112,7 +113,7 @@ pub record Long (D n : ℕ) (s : Scratch) : Type 0 where
   pub words1 : n ≤ s.words1
   pub earlier : n ≤ s.earlier
 
-pub scratch_parts : (D n : ℕ) (s : Scratch) → scratch_long D n s ≡ true → Long D n s
+pub scratch_parts : (D n : ℕ) (s : Lengths) → scratch_long D n s ≡ true → Long D n s
 unfolding scratch_long
 scratch_parts D n s h = record {
   starts = grind (arith, nat_tests);
@@ -127,23 +128,20 @@ scratch_parts D n s h = record {
   earlier = grind (arith, nat_tests);
 }
 
--- the first D entries of two of them are lent on
-part_long : (D : ℕ) (xs : List ℕ) → D ≤ length xs → length (take (D - 0) (drop 0 xs)) ≡ D
-part_long D xs h = omega (arith, length-take (D - 0) (drop 0 xs), length-drop 0 xs)
-
 pub decomposable : (D n : ℕ) (t was : Tables) (starts before last first next numbers masks words0 words1 earlier : List ℕ) (room : Size)
-    → Lent D n t was (scratch_of starts before last first next numbers masks words0 words1 earlier) → places_of room ≡ room_of was
-    → Decomposable n t was room starts before (take (D - 0) (drop 0 last)) (take (D - 0) (drop 0 first)) next numbers masks words0 words1 earlier
+    → Lent D n t was (lengths_of starts before last first next numbers masks words0 words1 earlier) → places_of room ≡ room_of was
+    → Decomposable D n t was room starts before last first next numbers masks words0 words1 earlier
 decomposable D n t was starts before last first next numbers masks words0 words1 earlier room l e =
-    let p = scratch_parts D n (scratch_of starts before last first next numbers masks words0 words1 earlier) l.scratch in
+    let p = scratch_parts D n (lengths_of starts before last first next numbers masks words0 words1 earlier) l.scratch in
     record {
-      fitting = rw (part_long D last p.last_of) l.fitting;
+      fitting = l.fitting;
       columns = l.columns;
       lists = l.lists;
       places = e;
-      wide = part_long D first p.first_of ∙ sym (part_long D last p.last_of);
       starts_hold = p.starts;
       before_hold = p.before;
+      last_hold = p.last_of;
+      first_hold = p.first_of;
       next_hold = p.next_of;
       numbers_hold = p.numbers;
       masks_hold = p.masks;
@@ -161,7 +159,11 @@ on_sheet (refused r) = refl
 
 -- ---- what the call comes to, by its checks
 
-module _ (D O n : ℕ) (t was : Tables) (s : Scratch) where
+-- the lengths told are those of the slices
+pub same_check : (D O n : ℕ) (t was : Tables) (s told : Lengths) (x : Checked) → told ≡ s → x ≡ checked D O n t was told → checked D O n t was s ≡ x
+same_check D O n t was s told x e q = rw (← e) (sym q)
+
+module _ (D O n : ℕ) (t was : Tables) (s : Lengths) where
   pub refused_by : (z : Refusal) (r : Result Counts Refusal) (after : Tables) → checked D O n t was s ≡ Err z → r ≡ Err z → Made (outcome D O n t was s) was r after
   unfolding outcome
   refused_by z r after e q = rw e q
@@ -174,12 +176,10 @@ module _ (D O n : ℕ) (t was : Tables) (s : Scratch) where
 -- ---- what it leaves
 
 -- a refusal leaves tables of the same lengths, all zero
-pub same_zero : (a b : Tables) → length a.probability ≡ length b.probability → length a.detector_counts ≡ length b.detector_counts
-    → length a.observable_counts ≡ length b.observable_counts → length a.component_counts ≡ length b.component_counts
-    → length a.component_detectors ≡ length b.component_detectors → length a.component_observables ≡ length b.component_observables
-    → length a.entries ≡ length b.entries → tables_zero a ≡ tables_zero b
+pub same_zero : (t t' : Output) → SameOutput t t' → tables_zero (tables_out t') ≡ tables_zero (tables_out t)
 unfolding tables_zero
-same_zero a b e1 e2 e3 e4 e5 e6 e7 = rw (e1, e2, e3, e4, e5, e6, e7)
+same_zero t t' e =
+    rw (e.probability_long, e.detector_counts_long, e.observable_counts_long, e.component_counts_long, e.component_detectors_long, e.component_observables_long, e.entries_long)
 
 pub refused_left : (x : Split) (was mid after : Tables) (r : Result Counts Refusal) → Made x was r mid → is_err r ≡ true → after ≡ tables_zero was → Decomposes x r was after
 refused_left (into ms) was mid after r m e z = absurd (cc (sym e ∙ ap (is_err {T = Counts} {E = Refusal}) m.0))

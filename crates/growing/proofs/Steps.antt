@@ -1,4 +1,4 @@
--- Steps 2 and 3 of a round, over the counted edges in any order. Assumes nothing.
+-- Step 2 of a round, over the counted edges in any order. Assumes nothing.
 use Prim.Native.Nat.{ℕ, ◌<◌}
 use native.Mathlib.Omega.{arith}
 use mathlib.Core.Path.{◌≡◌, refl, sym, ap, ◌∙◌}

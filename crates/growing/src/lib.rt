@@ -9,7 +9,7 @@ ghost use Rattle.cells.specs.Tables.{at_fresh, touched, cnt, fresh, SameLinks};
 use cells::Link;
 
 // The lesser of two steps.
-// kept: `min` answers s where b is not a number, and the definition b.
+// kept: where b is not a number `min` answers s, and the definition that the contract names b
 pub fn lesser(b: f64, s: f64) -> f64
     ensures { result ≡ lesser_of b s }
 {
@@ -38,7 +38,7 @@ pub fn step_at(w: f64, g: f64, n: u32) -> f64
     (w - g) * share(n)
 }
 
-// Step 2: the least step of the m edges; infinity where there is none. The edge that gives it reaches its weight in step 3, so it is not kept.
+// Step 2: the least step of the m edges; infinity where there is none. The edge that gives it reaches its weight as it grows, so it is not kept.
 pub fn least(links: &[Link], m: usize, edge_weight: &[f64], growth: &[f64]) -> f64
     requires growing { Growing (touched links.now) (cnt links.now) m (length edge_weight.now) }
     requires growth_len { length growth.now ≡ length edge_weight.now }
@@ -59,7 +59,7 @@ pub fn moved(g: f64, n: u32, step: f64) -> f64
     g + (n as f64) * step
 }
 
-// Step 3: moves the growth of the m edges on by the step, once for each end that is counted, and lists those that reach their weight. Each edge is written before it is known whether it is listed, since that cannot be foretold.
+// Step 2: moves the growth of the m edges on by the step, once for each end that is counted, and lists those that reach their weight. Each edge is written before it is known whether it is listed, since that cannot be foretold.
 pub fn grow(
     links: &mut [Link],
     m: usize,

@@ -23,7 +23,7 @@ use Rattle.growth_state.proofs.Laws.{member_take}
 use Rattle.growth_state.proofs.Unseen.{used_of}
 use Rattle.forest.specs.Forest.{labels}
 use Rattle.adjacency.specs.Adjacent.{weighted}
-use Rattle.growth_round.specs.Round.{Space, Stepped}
+use Rattle.growth_round.specs.Round.{Stepped}
 use Rattle.growth_round.specs.Grow.{Grew}
 
 -- the state is the one that the tables hold
@@ -42,20 +42,6 @@ rep_own {g} {lit} r = record {
   seens = r.seens;
   calm = r.calm;
   rest = r.rest;
-}
-
--- other tables as long as these
-pub same_space : {d : ℕ} {us vs : List ℕ} {ws : List Float} {off adj far front touched cnt : List ℕ} → Space d us vs ws off adj far front touched cnt
-    → (front' touched' cnt' : List ℕ) → length front' ≡ length front → length touched' ≡ length touched → length cnt' ≡ length cnt
-    → Space d us vs ws off adj far front' touched' cnt'
-same_space sp front' touched' cnt' q r s = record {
-  ends = sp.ends;
-  weights = sp.weights;
-  few = sp.few;
-  adjacent = sp.adjacent;
-  fronts = omega (arith, sp.fronts);
-  touches = omega (arith, sp.touches);
-  cnts = omega (arith, sp.cnts);
 }
 
 -- ---- one step of growth

@@ -15,6 +15,7 @@ fn is_digit(b: u8) -> bool
 }
 
 // The value of a digit, and 0 of any other byte.
+// kept: a contract speaks of the bytes of any line, and their definition has this 0; what is read of an input has passed `is_hex` before
 fn digit(b: u8) -> u8
     ensures { (result ≡ digit_value b) × (result < 16) }
 {

@@ -1,11 +1,12 @@
 // docs/RULES.md, "Decomposition": the kept mechanisms are copied, column by column.
 #![tactic(auto)]
 
-ghost use Rattle.std.specs.Prelude.{◌+◌, ◌<◌, ◌≤◌, length, take};
-ghost use Rattle.dem.specs.Positions.{total, tables};
-ghost use Rattle.kept.specs.Columns.{kept_column, kept_parts, Copied, Sized, Listed};
+ghost use Rattle.std.specs.Prelude.{◌+◌, ◌<◌, ◌≤◌, length};
+ghost use Rattle.dem.specs.Lent.{tables_of};
+ghost use Rattle.kept.specs.Columns.{kept_column, Copied, Sized, Listed};
+ghost use Rattle.kept.specs.Lent.{component_total, component_column};
 
-use dem::Place;
+use dem::{Model, Place};
 
 // of a kept mechanism
 const MOST_DETECTORS: u8 = 2;
@@ -13,18 +14,13 @@ const MOST_DETECTORS: u8 = 2;
 // ---- the columns
 
 // A column of the kept mechanisms, and how many they are.
-pub fn copy_column<T: Copy>(
-    mechanisms: usize,
-    detector_counts: &[u8],
-    column: &[T],
-    out: &mut [T],
-) -> usize
-    requires { (mechanisms ≤ length detector_counts.now) × (mechanisms ≤ length column.now) × (mechanisms ≤ length out.old) }
-    ensures { (z : T) → Copied (kept_column z mechanisms detector_counts.now column.now) out.old result out.new }
+pub fn copy_column<T: Copy>(model: &Model, column: &[T], out: &mut [T]) -> usize
+    requires { (model.now.mechanisms ≤ length model.now.detector_counts.now) × (model.now.mechanisms ≤ length column.now) × (model.now.mechanisms ≤ length out.old) }
+    ensures { (z : T) → Copied (kept_column z model.now.mechanisms model.now.detector_counts.now column.now) out.old result out.new }
 {
     let mut at = 0;
-    for i in 0..mechanisms {
-        if detector_counts[i] <= MOST_DETECTORS {
+    for i in 0..model.mechanisms {
+        if model.detector_counts[i] <= MOST_DETECTORS {
             out[at] = column[i];
             at += 1;
         }
@@ -34,22 +30,16 @@ pub fn copy_column<T: Copy>(
 
 // A column of the components of the kept mechanisms.
 #[tactic(auto, using(crate::proofs::Sums::sum_next, crate::proofs::Sums::sum_upto))]
-pub fn copy_components(
-    mechanisms: usize,
-    detector_counts: &[u8],
-    component_counts: &[u8],
-    counts: &[u8],
-    out: &mut [u8],
-) -> usize
-    requires { (mechanisms ≤ length detector_counts.now) × (mechanisms ≤ length component_counts.now) × (total (take mechanisms component_counts.now) ≤ length counts.now) × (total (take mechanisms component_counts.now) ≤ length out.old) }
-    ensures { Copied (kept_parts mechanisms detector_counts.now (λ i. total (take i component_counts.now)) counts.now) out.old result out.new }
+pub fn copy_components(model: &Model, counts: &[u8], out: &mut [u8]) -> usize
+    requires { (model.now.mechanisms ≤ length model.now.detector_counts.now) × (model.now.mechanisms ≤ length model.now.component_counts.now) × (component_total model.now ≤ length counts.now) × (component_total model.now ≤ length out.old) }
+    ensures { Copied (component_column model.now counts.now) out.old result out.new }
 {
     let mut at = 0;
     let mut end = 0;
-    for i in 0..mechanisms {
+    for i in 0..model.mechanisms {
         let start = end;
-        end += component_counts[i] as usize;
-        if detector_counts[i] <= MOST_DETECTORS {
+        end += model.component_counts[i] as usize;
+        if model.detector_counts[i] <= MOST_DETECTORS {
             tables::copy_to(&counts[start..end], out, at);
             at += end - start;
         }
@@ -57,22 +47,11 @@ pub fn copy_components(
     at
 }
 
-// The entries of the kept mechanisms; starts has where each begins in the tables given. Long for its parameters, one a line.
+// The entries of the kept mechanisms; starts has where each begins in the tables given.
 #[tactic(auto, using(dem::proofs::Positions::entries_le))]
-pub fn copy_entries(
-    mechanisms: usize,
-    probability: &[f64],
-    detector_counts: &[u8],
-    observable_counts: &[u8],
-    component_counts: &[u8],
-    component_detectors: &[u8],
-    component_observables: &[u8],
-    entries: &[u32],
-    out: &mut [u32],
-    starts: &mut [u32],
-) -> usize
-    requires { Sized mechanisms (tables probability.now detector_counts.now observable_counts.now component_counts.now component_detectors.now component_observables.now entries.now) out.old starts.old }
-    ensures { Listed mechanisms (tables probability.now detector_counts.now observable_counts.now component_counts.now component_detectors.now component_observables.now entries.now) out.old starts.old result out.new starts.new }
+pub fn copy_entries(model: &Model, out: &mut [u32], starts: &mut [u32]) -> usize
+    requires { Sized model.now.mechanisms (tables_of model.now) out.old starts.old }
+    ensures { Listed model.now.mechanisms (tables_of model.now) out.old starts.old result out.new starts.new }
 {
     let mut place = Place {
         component: 0,
@@ -80,21 +59,15 @@ pub fn copy_entries(
     };
     let mut kept = 0;
     let mut at = 0;
-    for i in 0..mechanisms {
-        let h = dem::head(
-            probability,
-            detector_counts,
-            observable_counts,
-            component_counts,
-            i,
-        );
+    for i in 0..model.mechanisms {
+        let h = model.head(i);
         let start = place.entry;
-        place = dem::past(h, place, component_detectors, component_observables);
+        place = model.past(h, place);
         let end = place.entry;
         if h.detectors <= MOST_DETECTORS {
             starts[kept] = start as u32;
             kept += 1;
-            tables::copy_to(&entries[start..end], out, at);
+            tables::copy_to(&model.entries[start..end], out, at);
             at += end - start;
         }
     }

@@ -12,10 +12,11 @@ use borrow.Author.Tests.{eqb-true, eqb-false}
 use Rattle.lists.proofs.Truth.{case-of, clash, same_eqb}
 use Rattle.std.specs.Prelude.{Some, None}
 use Rattle.dem.specs.Decompose.{same_symptom}
+use Rattle.cover.specs.declared.Lists.{Lists}
 use Rattle.cover.specs.Kept.{detectors_at, symptom_at, starts_with, Detectors}
 use Rattle.cover.specs.Search.{previous, highest}
 use Rattle.cover.proofs.Chain.{starts_is, starts_none, first_below, head_below}
-use Rattle.cover.proofs.Turn.{highest_hit, highest_miss, highest_none, previous_le}
+use Rattle.cover.proofs.Turn.{highest_hit, highest_miss, highest_none, previous_le, previous_cong}
 use Rattle.last_equal.specs.declared.Span.{Span}
 use Rattle.last_equal.specs.Last.{symptom_in, Chained, Linkable, Findable}
 use Rattle.last_equal.proofs.Same.{same_starts, same_detectors}
@@ -32,11 +33,6 @@ previous_is p (suc n) e h = case-of (p n)
 previous_next : (p : ℕ → Bool) (n : ℕ) → previous p (n + 1) ≡ cond (p n) (n + 1) (previous p n)
 unfolding previous
 previous_next p n = rw (add-one n)
-
-previous_cong : (p q : ℕ → Bool) (n : ℕ) → ((i : ℕ) → i < n → p i ≡ q i) → previous p n ≡ previous q n
-unfolding previous
-previous_cong p q zero h = refl
-previous_cong p q (suc n) h = rw (h n (omega arith), previous_cong p q n (λ i l. h i (omega arith)))
 
 pub highest_cong : (p q : ℕ → Bool) (n : ℕ) → ((i : ℕ) → i < n → p i ≡ q i) → highest p n ≡ highest q n
 unfolding highest
@@ -71,6 +67,10 @@ module _ (p q : ℕ → Bool) (n : ℕ) (sub : (i : ℕ) → q i ≡ true → p 
 
 abbrev pub Walk : Span → ℕ → List ℕ → List ℕ → List ℕ → List ℕ → ℕ → Type 0
 Walk s n es starts counts others next = Finding (λ k. starts_with (get_or es s.at 0) (detectors_at starts counts es k)) (λ k. same_symptom (symptom_at starts counts others es k) (symptom_in es s)) n next
+
+-- the same over lists
+abbrev pub WalkBy : Span → ℕ → Lists → ℕ → Type 0
+WalkBy s n l = Walk s n l.entries.now l.starts.now l.detector_counts.now l.observable_counts.now
 
 module _ (s : Span) (n : ℕ) (es starts counts others last before : List ℕ) (r : Findable s n es starts counts others last before) where
   d : ℕ

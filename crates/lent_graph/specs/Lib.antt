@@ -1,4 +1,5 @@
 pub mod Accepts
 pub mod Call
+pub mod Graph
 pub mod Laws
 pub mod Lent

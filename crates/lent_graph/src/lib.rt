@@ -1,19 +1,33 @@
 // docs/RULES.md, "Graphs" and "Refusals": the check of a lent graph, and what every call on one checks first.
 #![tactic(auto)]
 
-ghost use Rattle.std.specs.Prelude.{◌≡◌, ◌*◌, ◌≤◌, length};
+ghost use Rattle.std.specs.Prelude.{◌≡◌, ◌≤◌, true, length};
 ghost use Rattle.lists.specs.Lists.{below};
 ghost use Rattle.bits.specs.Rows.{words, is_clear};
 ghost use Rattle.weight.specs.Weight.{weight_fits};
 ghost use Rattle.codes.specs.Limits.{max_observables, max_mechanisms};
-ghost use Rattle.steps.specs.Call.{graph_of, check_edges};
-ghost use Rattle.lent_graph.specs.Lent.{ends_of, check_row, tables_long};
-ghost use Rattle.lent_graph.specs.Call.{lent_of, check_rows, check_call};
+ghost use Rattle.steps.specs.Call.{check_edges};
+ghost use Rattle.lent_graph.specs.Lent.{ends_of, check_row};
+ghost use Rattle.lent_graph.specs.Call.{tables_in, check_rows, check_call};
+ghost use Rattle.lent_graph.specs.Graph.{lent, edge_graph};
 
 use codes::{Checked, Refusal};
 
 // The second end of a boundary edge.
+// kept: it stands in lent tables of u32, whose layout C shares, so none is a number there, above that of every detector
 pub const BOUNDARY: u32 = 4294967295;
+
+// A graph as a host lends it: three counts and four tables, each as long as the counts need or longer.
+#[derive(Clone, Copy)]
+pub struct Graph<'a> {
+    pub detectors: usize,
+    pub observables: usize,
+    pub edges: usize,
+    pub edge_u: &'a [u32],
+    pub edge_v: &'a [u32],
+    pub edge_weight: &'a [f64],
+    pub edge_obs: &'a [u64],
+}
 
 // Both ends are detectors, ascending, or the second is the boundary.
 #[tactic(auto, unfolding(crate::specs::Lent::ends_of))]
@@ -65,30 +79,22 @@ fn check_edge(
 }
 
 // Edge by edge, in tables that are long enough.
-#[tactic(auto, unfolding(lists::specs::Lists::below), using(crate::proofs::Edges::inside, crate::proofs::Edges::edges_refused, crate::proofs::Edges::edges_on, crate::proofs::Edges::edges_end))]
-pub fn check_edges(
-    detectors: usize,
-    observables: usize,
-    edges: usize,
-    edge_u: &[u32],
-    edge_v: &[u32],
-    edge_weight: &[f64],
-    edge_obs: &[u64],
-) -> Checked
-    requires { (observables ≤ max_observables) × (edges ≤ max_mechanisms) × (edges ≤ length edge_u.now) × (edges ≤ length edge_v.now) × (edges ≤ length edge_weight.now) × (edges * words observables ≤ length edge_obs.now) }
-    ensures { result ≡ check_edges (graph_of detectors observables edges edge_u.now edge_v.now edge_weight.now edge_obs.now) (below edges) }
+#[tactic(auto, unfolding(lists::specs::Lists::below), using(crate::proofs::Laws::long, crate::proofs::Edges::inside, crate::proofs::Edges::edges_refused, crate::proofs::Edges::edges_on, crate::proofs::Edges::edges_end))]
+pub fn check_edges(g: &Graph) -> Checked
+    requires { (g.now.observables ≤ max_observables) × (g.now.edges ≤ max_mechanisms) × (tables_in (lent g.now) ≡ true) }
+    ensures { result ≡ check_edges (edge_graph g.now) (below g.now.edges) }
 {
-    let n = bits::words(observables);
-    for e in 0..edges {
+    let n = bits::words(g.observables);
+    for e in 0..g.edges {
         let from = e * n;
         check_edge(
-            detectors,
-            observables,
+            g.detectors,
+            g.observables,
             e,
-            edge_u[e],
-            edge_v[e],
-            edge_weight[e],
-            &edge_obs[from..from + n],
+            g.edge_u[e],
+            g.edge_v[e],
+            g.edge_weight[e],
+            &g.edge_obs[from..from + n],
         )?;
     }
     Ok(())
@@ -96,21 +102,14 @@ pub fn check_edges(
 
 // An entry for each edge in every table.
 #[tactic(auto, unfolding(crate::specs::Lent::tables_long))]
-pub fn tables_long(
-    observables: usize,
-    edges: usize,
-    edge_u: &[u32],
-    edge_v: &[u32],
-    edge_weight: &[f64],
-    edge_obs: &[u64],
-) -> bool
-    requires { (observables ≤ max_observables) × (edges ≤ max_mechanisms) }
-    ensures { result ≡ tables_long observables edges edge_u.now edge_v.now edge_weight.now edge_obs.now }
+pub fn tables_long(g: &Graph) -> bool
+    requires { (g.now.observables ≤ max_observables) × (g.now.edges ≤ max_mechanisms) }
+    ensures { result ≡ tables_in (lent g.now) }
 {
-    edges <= edge_u.len()
-        && edges <= edge_v.len()
-        && edges <= edge_weight.len()
-        && edges * bits::words(observables) <= edge_obs.len()
+    g.edges <= g.edge_u.len()
+        && g.edges <= g.edge_v.len()
+        && g.edges <= g.edge_weight.len()
+        && g.edges * bits::words(g.observables) <= g.edge_obs.len()
 }
 
 // 8, 9, then 10.
@@ -125,36 +124,16 @@ fn check_rows(detectors: usize, rows: &[u64], shots: usize, width: usize) -> Che
     Ok(())
 }
 
-// 1, 2 (the tables, and whether the call's own slices are long enough), the graph, then 8, 9, 10. Long for its parameters, one a line.
-#[tactic(auto, unfolding(crate::specs::Call::check_call), using(codes::proofs::Checks::counts_within, crate::proofs::Laws::long))]
-pub fn check_call(
-    detectors: usize,
-    observables: usize,
-    edges: usize,
-    edge_u: &[u32],
-    edge_v: &[u32],
-    edge_weight: &[f64],
-    edge_obs: &[u64],
-    long: bool,
-    rows: &[u64],
-    shots: usize,
-    width: usize,
-) -> Checked
-    ensures { result ≡ check_call (lent_of detectors observables edges edge_u.now edge_v.now edge_weight.now edge_obs.now) long rows.now shots width }
+// 1, 2 (the tables, and whether the call's own slices are long enough), the graph, then 8, 9, 10.
+#[tactic(auto, unfolding(crate::specs::Call::check_call), using(codes::proofs::Checks::counts_within))]
+pub fn check_call(g: &Graph, long: bool, rows: &[u64], shots: usize, width: usize) -> Checked
+    ensures { result ≡ check_call (lent g.now) long rows.now shots width }
 {
-    codes::check_counts(detectors, observables, edges)?;
+    codes::check_counts(g.detectors, g.observables, g.edges)?;
     codes::check_shots(shots)?;
-    if !tables_long(observables, edges, edge_u, edge_v, edge_weight, edge_obs) || !long {
+    if !tables_long(g) || !long {
         return Err(Refusal::Short);
     }
-    check_edges(
-        detectors,
-        observables,
-        edges,
-        edge_u,
-        edge_v,
-        edge_weight,
-        edge_obs,
-    )?;
-    check_rows(detectors, rows, shots, width)
+    check_edges(g)?;
+    check_rows(g.detectors, rows, shots, width)
 }

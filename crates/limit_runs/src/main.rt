@@ -13,13 +13,13 @@
 ghost use Rattle.std.specs.Prelude.{◌≤◌, ◌<◌, IfOk, length};
 
 use codes::{Checked, Refusal};
+use dem::Model;
+use lent_graph::Graph;
 use marking::Marking;
 use std::io;
 use std::io::Read;
 
 const ONES: u64 = 18446744073709551615;
-
-const BOUNDARY: u32 = 4294967295;
 
 // Field f of a line, empty where there is none.
 fn field(line: &[u8], f: usize) -> &[u8] {
@@ -160,18 +160,19 @@ fn check(
 ) -> Checked {
     let none = [0u8; 17];
     let empty: &[u8] = &none;
-    model_tables::check_model(
+    let model = Model {
         detectors,
         observables,
-        1,
-        &[probability],
-        &[detector_count],
-        &[0],
-        &[component_count],
-        empty,
-        empty,
+        mechanisms: 1,
+        probability: &[probability],
+        detector_counts: &[detector_count],
+        observable_counts: &[0],
+        component_counts: &[component_count],
+        component_detectors: empty,
+        component_observables: empty,
         entries,
-    )
+    };
+    model_tables::check_model(&model)
 }
 
 fn small(line: &[u8], j: usize) -> u8 {
@@ -200,16 +201,10 @@ fn say_marking(out: &impl Print, a: Result<Marking, Refusal>) -> io::Result<()> 
     }
 }
 
-// The first so many words of the row and of the scratch are lent. Long for its parameters, one a line.
+// The first so many words of the row and of the scratch are lent.
 fn mark(
     out: &impl Print,
-    detectors: usize,
-    observables: usize,
-    edges: usize,
-    edge_u: &[u32],
-    edge_v: &[u32],
-    edge_weight: &[f64],
-    edge_obs: &[u64],
+    g: &Graph,
     shot: &[u64],
     width: usize,
     list: &[u32],
@@ -223,13 +218,7 @@ fn mark(
     let mut marks = [ONES; 256];
     let mut wrong = [ONES; 64];
     let marking = marker::mark(
-        detectors,
-        observables,
-        edges,
-        edge_u,
-        edge_v,
-        edge_weight,
-        edge_obs,
+        g,
         shot,
         width,
         list,
@@ -241,70 +230,44 @@ fn mark(
     print!(out; ", row {} {} {}", row[0], row[1], row[2])
 }
 
-// The counts, the width, and the lengths of the row and of the scratch. Long for its parameters, one a line.
-fn run_counts(
-    out: &impl Print,
-    line: &[u8],
-    edge_u: &[u32],
-    edge_v: &[u32],
-    edge_weight: &[f64],
-    edge_obs: &[u64],
-    shot: &[u64],
-    list: &[u32],
-) -> io::Result<()> {
+// The shot and its width, the list, and the lengths of the row and of the scratch.
+fn run_shot(out: &impl Print, line: &[u8], g: &Graph) -> io::Result<()> {
+    let shot = numbers(line, 8);
+    let list = ends(line, 9, [0; 16384]);
+    let s = slice_length(line, 3, 4, 256);
+    let n = slice_length(line, 3, 5, 16384);
     mark(
         out,
-        value(line, 2, 0),
-        value(line, 2, 1),
-        value(line, 2, 2),
-        edge_u,
-        edge_v,
-        edge_weight,
-        edge_obs,
-        shot,
+        g,
+        &shot[0..s],
         value(line, 2, 3),
-        list,
+        &list[0..n],
         slice_length(line, 3, 6, 3),
         slice_length(line, 3, 7, 256),
         slice_length(line, 3, 8, 64),
     )
 }
 
-// The observables, the shot and the list.
-fn run_shot(
-    out: &impl Print,
-    line: &[u8],
-    edge_u: &[u32],
-    edge_v: &[u32],
-    edge_weight: &[f64],
-) -> io::Result<()> {
-    let edge_obs = numbers(line, 7);
-    let shot = numbers(line, 8);
-    let list = ends(line, 9, [0; 16384]);
-    let o = slice_length(line, 3, 3, 256);
-    let s = slice_length(line, 3, 4, 256);
-    let n = slice_length(line, 3, 5, 16384);
-    run_counts(
-        out,
-        line,
-        edge_u,
-        edge_v,
-        edge_weight,
-        &edge_obs[0..o],
-        &shot[0..s],
-        &list[0..n],
-    )
-}
-
-// The edges.
+// The graph.
 fn run_marker(out: &impl Print, line: &[u8]) -> io::Result<()> {
     let edge_weight = weights(line, 4);
     let edge_u = ends(line, 5, [0; 16384]);
-    let edge_v = ends(line, 6, [BOUNDARY; 16384]);
+    let edge_v = ends(line, 6, [lent_graph::BOUNDARY; 16384]);
+    let edge_obs = numbers(line, 7);
     let u = slice_length(line, 3, 0, 16384);
     let v = slice_length(line, 3, 1, 16384);
     let w = slice_length(line, 3, 2, 16384);
-    run_shot(out, line, &edge_u[0..u], &edge_v[0..v], &edge_weight[0..w])
+    let o = slice_length(line, 3, 3, 256);
+    let g = Graph {
+        detectors: value(line, 2, 0),
+        observables: value(line, 2, 1),
+        edges: value(line, 2, 2),
+        edge_u: &edge_u[0..u],
+        edge_v: &edge_v[0..v],
+        edge_weight: &edge_weight[0..w],
+        edge_obs: &edge_obs[0..o],
+    };
+    run_shot(out, line, &g)
 }
 
 fn run_case(out: &impl Print, line: &[u8]) -> io::Result<()> {

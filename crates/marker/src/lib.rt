@@ -2,38 +2,26 @@
 #![tactic(auto)]
 
 ghost use Rattle.std.specs.Prelude.{◌≡◌, length};
-ghost use Rattle.lent_graph.specs.Call.{lent_of};
+ghost use Rattle.lent_graph.specs.Graph.{lent};
 ghost use Rattle.marker.specs.Answer.{marker_long, Marks};
 
 use codes::Refusal;
+use lent_graph::Graph;
 use marking::Marking;
 
 // 2: the row, and the scratch for the edges met and the wrong detectors, are as long as the counts need.
 #[tactic(auto, unfolding(crate::specs::Answer::marker_long))]
-fn long(
-    detectors: usize,
-    observables: usize,
-    edges: usize,
-    row: &[u64],
-    marks: &[u64],
-    wrong: &[u64],
-) -> bool
-    ensures { result ≡ marker_long detectors observables edges (length row.now) (length marks.now) (length wrong.now) }
+fn long(g: &Graph, row: &[u64], marks: &[u64], wrong: &[u64]) -> bool
+    ensures { result ≡ marker_long g.now.detectors g.now.observables g.now.edges (length row.now) (length marks.now) (length wrong.now) }
 {
-    bits::words(observables) <= row.len()
-        && bits::words(edges) <= marks.len()
-        && bits::words(detectors) <= wrong.len()
+    bits::words(g.observables) <= row.len()
+        && bits::words(g.edges) <= marks.len()
+        && bits::words(g.detectors) <= wrong.len()
 }
 
-// 1, 2, the graph, 8, 9, 10, then 13, Pass or Differs. Long for its parameters, one a line.
+// 1, 2, the graph, 8, 9, 10, then 13, Pass or Differs.
 pub fn mark(
-    detectors: usize,
-    observables: usize,
-    edges: usize,
-    edge_u: &[u32],
-    edge_v: &[u32],
-    edge_weight: &[f64],
-    edge_obs: &[u64],
+    g: &Graph,
     shot: &[u64],
     width: usize,
     list: &[u32],
@@ -41,37 +29,16 @@ pub fn mark(
     marks: &mut [u64],
     wrong: &mut [u64],
 ) -> Result<Marking, Refusal>
-    ensures { Marks (lent_of detectors observables edges edge_u.now edge_v.now edge_weight.now edge_obs.now) shot.now width list.now row.old marks.old wrong.old result row.new }
+    ensures { Marks (lent g.now) shot.now width list.now row.old marks.old wrong.old result row.new }
 {
-    let enough = long(detectors, observables, edges, row, marks, wrong);
-    lent_graph::check_call(
-        detectors,
-        observables,
-        edges,
-        edge_u,
-        edge_v,
-        edge_weight,
-        edge_obs,
-        enough,
-        shot,
-        1,
-        width,
-    )?;
-    let m = bits::words(edges);
-    let n = bits::words(detectors);
-    let judged = marking::judge(
-        detectors,
-        edges,
-        edge_u,
-        edge_v,
-        shot,
-        list,
-        &mut marks[0..m],
-        &mut wrong[0..n],
-    )?;
+    let enough = long(g, row, marks, wrong);
+    lent_graph::check_call(g, enough, shot, 1, width)?;
+    let m = bits::words(g.edges);
+    let n = bits::words(g.detectors);
+    let judged = marking::judge(g, shot, list, &mut marks[0..m], &mut wrong[0..n])?;
     if let Marking::Pass = judged {
-        let w = bits::words(observables);
-        marking::write_row(edge_obs, list, &mut row[0..w]);
+        let w = bits::words(g.observables);
+        marking::write_row(g.edge_obs, list, &mut row[0..w]);
     }
     Ok(judged)
 }

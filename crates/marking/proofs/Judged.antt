@@ -34,11 +34,6 @@ unfolding fit
 fit_same g h e [] = refl
 fit_same g h e (a ∷ es) = rw (e, fit_same g h e es)
 
-wrong_same : (g h : Graph) → g.edge_u ≡ h.edge_u → g.edge_v ≡ h.edge_v → (row es : List ℕ) → wrong_after g row es ≡ wrong_after h row es
-unfolding wrong_after
-wrong_same g h p q row [] = refl
-wrong_same g h p q row (e ∷ es) = rw (wrong_same g h p q row es, p, q)
-
 pub first_same : (g h : Graph) → g.edge_u ≡ h.edge_u → g.edge_v ≡ h.edge_v → (lit : List Bool) (es ds : List ℕ) → first_wrong g lit es ds ≡ first_wrong h lit es ds
 unfolding first_wrong
 first_same g h p q lit es [] = refl
@@ -83,9 +78,6 @@ module _ (d n : ℕ) (u v shot marks wrong : List ℕ) (r : Ready d n u v shot m
   abbrev full : Graph
   full = ends_graph d n u v
 
-  abbrev bare : Graph
-  bare = ends_graph 0 n u v
-
   pub few_words : length wrong ≤ 64
   unfolding words
   few_words = let k = r.few in let h = r.wrong_long in omega arith
@@ -115,19 +107,15 @@ module _ (d n : ℕ) (u v shot marks wrong : List ℕ) (r : Ready d n u v shot m
     abbrev answer : Result Marking Refusal
     answer = marking_of (mark full (lit_of d shot) list)
 
-    fits_too : fit full list ≡ fit bare list
-    unfolding graph_of
-    fits_too = fit_same full bare refl list
-
     -- an unknown or repeated edge
-    pub unfit_list : false ≡ fit bare list → Err refusal.Edge ≡ answer
-    unfit_list f = sym (ap marking_of (refuses full (lit_of d shot) list (fits_too ∙ sym f)))
+    pub unfit_list : false ≡ fit full list → Err refusal.Edge ≡ answer
+    unfit_list f = sym (ap marking_of (refuses full (lit_of d shot) list (sym f)))
 
     -- else the lowest wrong detector
-    pub fit_list : {before after : List ℕ} {o : Option ℕ} → true ≡ fit bare list → before ≡ shot → after ≡ wrong_after bare before list
+    pub fit_list : {before after : List ℕ} {o : Option ℕ} → true ≡ fit full list → before ≡ shot → after ≡ wrong_after full before list
         → o ≡ lowest_of (set_bits (64 * length after) after) → marking_by o ≡ answer
     unfolding graph_of
     fit_list {before} {after} {o} t p q e =
-        let same : after ≡ wrong_after full shot list = q ∙ ap (λ (row : List ℕ). wrong_after bare row list) p ∙ sym (wrong_same full bare refl refl shot list) in
+        let same : after ≡ wrong_after full shot list = q ∙ ap (λ (row : List ℕ). wrong_after full row list) p in
         ap marking_by (e ∙ ap (λ (row : List ℕ). lowest_of (set_bits (64 * length row) row)) same)
-        ∙ sym (by_wrong full r.ends shot list r.shot_long r.shot_clear (fits_too ∙ sym t))
+        ∙ sym (by_wrong full r.ends shot list r.shot_long r.shot_clear (sym t))

@@ -40,9 +40,9 @@ unfolding fit
 fit_end g [] end h = h
 fit_end g (e ∷ front) end h = rw (fit_end g front end h, and-false (not (member e (front ++ end)))) (and-false (ltb e (length g.edge_u)))
 
-module _ (n : ℕ) (u v list marks₀ wrong₀ : List ℕ) where
+module _ (d n : ℕ) (u v list marks₀ wrong₀ : List ℕ) where
   abbrev g : Graph
-  g = ends_graph 0 n u v
+  g = ends_graph d n u v
 
   -- of the edges behind those that are left
   pub record Meeting (marks wrong left : List ℕ) : Type 0 where
@@ -58,7 +58,7 @@ module _ (n : ℕ) (u v list marks₀ wrong₀ : List ℕ) where
 
   module _ (r : Unmet n u v marks₀ wrong₀) where
     size : length g.edge_u ≡ n
-    size = counted 0 n u v r.u_long
+    size = counted d n u v r.u_long
 
     module _ (marks wrong left rest : List ℕ) (e : ℕ) (m : Meeting marks wrong left) (last : left ≡ rest ++ (e ∷ [])) where
       whole : rest ++ (e ∷ m.done) ≡ list
@@ -88,5 +88,5 @@ module _ (n : ℕ) (u v list marks₀ wrong₀ : List ℕ) where
         split = whole;
         fits = rw (size, lt-ltb e n h, sym marked ∙ f) m.fits;
         met = rw (p, m.met);
-        flips = rw (q, m.flips, near_end 0 n u v r.u_long e h, far_end 0 n u v r.v_long e h);
+        flips = rw (q, m.flips, near_end d n u v r.u_long e h, far_end d n u v r.v_long e h);
       }

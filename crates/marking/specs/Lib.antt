@@ -1,2 +1,3 @@
 pub mod Passes
 pub mod Answer
+pub mod Lent

@@ -6,10 +6,12 @@ ghost use Rattle.bits.specs.Rows.{set_bits};
 ghost use Rattle.steps.specs.Graph.{boundary};
 ghost use Rattle.steps.specs.Marker.{fit, mark};
 ghost use Rattle.steps.specs.Call.{lit_of};
-ghost use Rattle.marking.specs.Passes.{ends_graph, flip_ends, wrong_after, lowest_of, xor_rows, Unmet, Ready, InTable};
+ghost use Rattle.marking.specs.Passes.{flip_ends, wrong_after, lowest_of, xor_rows, InTable};
+ghost use Rattle.marking.specs.Lent.{ends_in, UnmetIn, ReadyIn};
 ghost use Rattle.marking.specs.Answer.{marking_of};
 
 use codes::Refusal;
+use lent_graph::Graph;
 
 #[derive(Clone, Copy)]
 pub enum Marking {
@@ -33,28 +35,21 @@ fn flip_ends(wrong: &mut [u64], u: u32, v: u32)
 }
 
 // Whether each listed edge is known and none stands twice; from the last one back, each is marked and its ends are flipped.
-fn meet(
-    edges: usize,
-    edge_u: &[u32],
-    edge_v: &[u32],
-    list: &[u32],
-    marks: &mut [u64],
-    wrong: &mut [u64],
-) -> bool
-    requires { Unmet edges edge_u.now edge_v.now marks.old wrong.old }
-    ensures known { result ≡ fit (ends_graph 0 edges edge_u.now edge_v.now) list.now }
-    ensures flips { result ≡ true → wrong.new ≡ wrong_after (ends_graph 0 edges edge_u.now edge_v.now) wrong.old list.now }
+fn meet(g: &Graph, list: &[u32], marks: &mut [u64], wrong: &mut [u64]) -> bool
+    requires { UnmetIn g.now marks.old wrong.old }
+    ensures known { result ≡ fit (ends_in g.now) list.now }
+    ensures flips { result ≡ true → wrong.new ≡ wrong_after (ends_in g.now) wrong.old list.now }
 {
     for e in list.iter().rev() {
         let e = *e as usize;
-        if edges <= e {
+        if g.edges <= e {
             return false;
         }
         if bits::get(marks, e) {
             return false;
         }
         bits::set(marks, e);
-        flip_ends(wrong, edge_u[e], edge_v[e]);
+        flip_ends(wrong, g.edge_u[e], g.edge_v[e]);
     }
     true
 }
@@ -76,21 +71,18 @@ fn lowest(row: &[u64]) -> Option<u32>
 
 // The list against the shot.
 pub fn judge(
-    detectors: usize,
-    edges: usize,
-    edge_u: &[u32],
-    edge_v: &[u32],
+    g: &Graph,
     shot: &[u64],
     list: &[u32],
     marks: &mut [u64],
     wrong: &mut [u64],
 ) -> Result<Marking, Refusal>
-    requires { Ready detectors edges edge_u.now edge_v.now shot.now marks.old wrong.old }
-    ensures { result ≡ marking_of (mark (ends_graph detectors edges edge_u.now edge_v.now) (lit_of detectors shot.now) list.now) }
+    requires { ReadyIn g.now shot.now marks.old wrong.old }
+    ensures { result ≡ marking_of (mark (ends_in g.now) (lit_of g.now.detectors shot.now) list.now) }
 {
     marks.fill(0);
     wrong.copy_from_slice(shot);
-    if !meet(edges, edge_u, edge_v, list, marks, wrong) {
+    if !meet(g, list, marks, wrong) {
         return Err(Refusal::Edge);
     }
     Ok(match lowest(wrong) {

@@ -4,10 +4,11 @@
 ghost use Rattle.std.specs.Prelude.{◌≡◌, ◌+◌, ◌≤◌, length, drop};
 ghost use Rattle.dem.specs.Model.{list_fits, symptom_fits, symptoms_fit, lists_fit, probability_fits, check_mechanism};
 ghost use Rattle.dem.specs.Tables.{components_of};
-ghost use Rattle.dem.specs.Positions.{mechanism_at, Within, Inside, symptom_at};
+ghost use Rattle.dem.specs.Positions.{Within, symptom_at};
+ghost use Rattle.dem.specs.Lent.{mechanism_in, InsideIn};
 
 use codes::{Checked, Refusal};
-use dem::{Mechanism, Place};
+use dem::{Mechanism, Model, Place};
 
 // Strictly ascending, below the bound, at most 16 entries.
 #[tactic(auto, unfolding(dem::specs::Model::list_fits), using(dem::proofs::Checks::turn_low, dem::proofs::Checks::turn_high, dem::proofs::Checks::turn_next, dem::proofs::Checks::turn_end))]
@@ -30,42 +31,28 @@ pub fn check_list(list: &[u32], bound: usize) -> bool
 
 // The lists of d detectors and o observables at an entry.
 #[tactic(auto, using(dem::proofs::Checks::symptom_parts))]
-fn symptom_fits(
-    detectors: usize,
-    observables: usize,
-    d: usize,
-    o: usize,
-    at: usize,
-    entries: &[u32],
-) -> bool
-    requires { at + (d + o) ≤ length entries.now }
-    ensures { result ≡ symptom_fits detectors observables (symptom_at d o (drop at entries.now)) }
+fn symptom_fits(model: &Model, d: usize, o: usize, at: usize) -> bool
+    requires { at + (d + o) ≤ length model.now.entries.now }
+    ensures { result ≡ symptom_fits model.now.detectors model.now.observables (symptom_at d o (drop at model.now.entries.now)) }
 {
     let middle = at + d;
     let end = middle + o;
-    check_list(&entries[at..middle], detectors) && check_list(&entries[middle..end], observables)
+    check_list(&model.entries[at..middle], model.detectors)
+        && check_list(&model.entries[middle..end], model.observables)
 }
 
 // The lists of n components from a place on.
 #[tactic(auto, using(dem::proofs::Checks::fit_turn, dem::proofs::Checks::first_inside, dem::proofs::Checks::others_inside))]
-fn components_fit(
-    detectors: usize,
-    observables: usize,
-    n: usize,
-    place: Place,
-    component_detectors: &[u8],
-    component_observables: &[u8],
-    entries: &[u32],
-) -> bool
-    requires { Within n place.component place.entry component_detectors.now component_observables.now entries.now }
-    ensures { result ≡ symptoms_fit detectors observables (components_of n (drop place.component component_detectors.now) (drop place.component component_observables.now) (drop place.entry entries.now)) }
+fn components_fit(model: &Model, n: usize, place: Place) -> bool
+    requires { Within n place.component place.entry model.now.component_detectors.now model.now.component_observables.now model.now.entries.now }
+    ensures { result ≡ symptoms_fit model.now.detectors model.now.observables (components_of n (drop place.component model.now.component_detectors.now) (drop place.component model.now.component_observables.now) (drop place.entry model.now.entries.now)) }
 {
     let end = place.component + n;
     let mut entry = place.entry;
     for component in place.component..end {
-        let d = component_detectors[component] as usize;
-        let o = component_observables[component] as usize;
-        if !symptom_fits(detectors, observables, d, o, entry, entries) {
+        let d = model.component_detectors[component] as usize;
+        let o = model.component_observables[component] as usize;
+        if !symptom_fits(model, d, o, entry) {
             return false;
         }
         entry += d + o;
@@ -75,17 +62,9 @@ fn components_fit(
 
 // All lists of a mechanism, and the number of its components.
 #[tactic(auto, using(dem::proofs::Checks::lists_parts))]
-fn lists_fit(
-    detectors: usize,
-    observables: usize,
-    head: Mechanism,
-    place: Place,
-    component_detectors: &[u8],
-    component_observables: &[u8],
-    entries: &[u32],
-) -> bool
-    requires { Inside head place component_detectors.now component_observables.now entries.now }
-    ensures { result ≡ lists_fit detectors observables (mechanism_at head place component_detectors.now component_observables.now entries.now) }
+fn lists_fit(model: &Model, head: Mechanism, place: Place) -> bool
+    requires { InsideIn model.now head place }
+    ensures { result ≡ lists_fit model.now.detectors model.now.observables (mechanism_in model.now head place) }
 {
     let d = head.detectors as usize;
     let o = head.observables as usize;
@@ -94,17 +73,9 @@ fn lists_fit(
         component: place.component,
         entry: place.entry + (d + o),
     };
-    symptom_fits(detectors, observables, d, o, place.entry, entries)
+    symptom_fits(model, d, o, place.entry)
         && n <= codes::MAX_ENTRIES
-        && components_fit(
-            detectors,
-            observables,
-            n,
-            first,
-            component_detectors,
-            component_observables,
-            entries,
-        )
+        && components_fit(model, n, first)
 }
 
 // In [0, 1); NaN is not.
@@ -117,28 +88,11 @@ fn probability_fits(p: f64) -> bool
 
 // Mechanism i: its lists (5), then its probability (4).
 #[tactic(auto, using(dem::proofs::Checks::check_parts))]
-pub fn check_mechanism(
-    detectors: usize,
-    observables: usize,
-    i: usize,
-    head: Mechanism,
-    place: Place,
-    component_detectors: &[u8],
-    component_observables: &[u8],
-    entries: &[u32],
-) -> Checked
-    requires { Inside head place component_detectors.now component_observables.now entries.now }
-    ensures { result ≡ check_mechanism detectors observables i (mechanism_at head place component_detectors.now component_observables.now entries.now) }
+pub fn check_mechanism(model: &Model, i: usize, head: Mechanism, place: Place) -> Checked
+    requires { InsideIn model.now head place }
+    ensures { result ≡ check_mechanism model.now.detectors model.now.observables i (mechanism_in model.now head place) }
 {
-    if !lists_fit(
-        detectors,
-        observables,
-        head,
-        place,
-        component_detectors,
-        component_observables,
-        entries,
-    ) {
+    if !lists_fit(model, head, place) {
         return Err(Refusal::Index { at: i });
     }
     if !probability_fits(head.probability) {

@@ -1,4 +1,4 @@
 pub mod Bits
 pub mod Columns
-pub mod ReadModel
+pub mod FromLines
 pub mod Sums

@@ -1,3 +1,4 @@
 pub mod BitLaws
 pub mod Bits
+pub mod Lent
 pub mod ModelCheck

@@ -4,17 +4,16 @@ use Prim.Native.Nat.{ℕ, ◌-◌, ◌*◌, ◌≤◌, min}
 use native.Mathlib.Omega.{arith}
 use native.Mathlib.Nat.{mul-le-mul, sub-zero, min_comm}
 use mathlib.Core.Path.{◌≡◌, refl, sym, ap, ◌∙◌, subst}
-use mathlib.Core.List.{List, []}
+use mathlib.Core.List.{List, [], map}
 use mathlib.Core.Bool.{true, false, not}
 use lib.IntN.{pos}
-use lib.ListN.{length, take, drop, replicate, length-append}
+use lib.ListN.{length, take, drop, replicate, length-append, length-map}
 use lib.Seq.{take_all, take-length}
 use lib.Dec.{leb}
 use lib.Ieee.{Float, fin}
 use borrow.Author.Tests.{leb-true, leb-false, le-leb, le-ltb}
 use Rattle.lists.proofs.Truth.{case-of, and_left, and_right}
-use Rattle.counts.specs.Rows.{column}
-use Rattle.counts.proofs.Rows.{column_length}
+use Rattle.counts.specs.declared.Row.{Row}
 use Rattle.codes.specs.declared.Refusal.{Refusal}
 use Rattle.codes.specs.declared.Refusal.TheVariants.{Short}
 use Rattle.codes.specs.Order.{Checked, refuse_if, and_then}
@@ -29,12 +28,14 @@ use Rattle.codes.proofs.Checks.{then_accepted, unless_accepted}
 use Rattle.dem.proofs.Laws.{laws}
 use Rattle.suggested.proofs.Models.{lengths}
 use Rattle.split_model.specs.declared.Counts.{Counts}
-use Rattle.decompose.specs.declared.Scratch.{Scratch}
+use Rattle.decompose.specs.declared.Lengths.{Lengths}
 use Rattle.decompose.specs.Call as call
 use Rattle.decompose.specs.Call.{room_of, scratch_long, long, checked, outcome_of, outcome, tables_left, Decomposes}
 use Rattle.lent_graph.specs.Lent.{tables_long}
 use Rattle.edges.specs.Compile as edges
 use Rattle.edges.specs.Compile.{Edges, compile}
+use Rattle.edges.specs.declared.EdgeTables.{EdgeTables}
+use Rattle.edges.specs.Lent.{slices_of, Zeroed}
 use Rattle.edges.specs.Tables.{Slices, slices}
 use Rattle.graph.specs.Outcome as graph
 use Rattle.graph.specs.Outcome.{slices_long, check_slices, table_left, Compiles}
@@ -43,14 +44,14 @@ use Rattle.frames.specs.Input.{Input, model_read}
 use Rattle.frames.proofs.FrameKinds.{held_of}
 use Rattle.reader.specs.Columns.{Columns, columns, Holds}
 use Rattle.model_check.specs.ModelCheck.{model_tables, from_bits, check_read, ModelChecked}
-use Rattle.model_check.proofs.ReadModel.{checked_refused, checked_accepted}
+use Rattle.model_check.proofs.FromLines.{checked_refused, checked_accepted}
 use Rattle.model_graph.specs.Graph.{places, split_read, compile_split, graph_read, zeros, held_tables, held_scratch, split_in, edges_in, graph_in}
 use Rattle.model_graph.specs.Answers.{Sized, Wide, held, DecomposedRead, GraphRead, GraphBy}
 
 -- ---- the model checked and decomposed
 
 -- scratch for 256 detectors and 1,024 mechanisms
-pub record Scratched (s : Scratch) : Type 0 where
+pub record Scratched (s : Lengths) : Type 0 where
   pub starts : 17408 ≤ s.starts
   pub before : 17408 ≤ s.before
   pub last : 256 ≤ s.last_of
@@ -62,7 +63,7 @@ pub record Scratched (s : Scratch) : Type 0 where
   pub words1 : 1024 ≤ s.words1
   pub earlier : 1024 ≤ s.earlier
 
-scratch_long_lem : (D n : ℕ) (s : Scratch) → D ≤ 256 → n ≤ 1024 → Scratched s → scratch_long D n s ≡ true
+scratch_long_lem : (D n : ℕ) (s : Lengths) → D ≤ 256 → n ≤ 1024 → Scratched s → scratch_long D n s ≡ true
 unfolding scratch_long
 scratch_long_lem D n s hd hn h =
     rw (
@@ -112,15 +113,15 @@ unfolding split_in
 split_as n c x e =
     ap (λ (y : Checked). outcome_of y (outcome n.detectors n.observables n.mechanisms (model_tables (from_bits n.mechanisms c.bits zeros) c) held_tables held_scratch)) e
 
-outcome_at : (D O m : ℕ) (p q : List Float) (ds os cs cds cos es : List ℕ) (was held : Tables) (sc hs : Scratch) → p ≡ q → was ≡ held → sc ≡ hs
+outcome_at : (D O m : ℕ) (p q : List Float) (ds os cs cds cos es : List ℕ) (was held : Tables) (sc hs : Lengths) → p ≡ q → was ≡ held → sc ≡ hs
     → outcome D O m (tables p ds os cs cds cos es) was sc ≡ outcome D O m (tables q ds os cs cds cos es) held hs
 outcome_at D O m p q ds os cs cds cos es was held sc hs a b c = cc
 
 scratch_of_lem : (a b c d e f g h i j : ℕ) → a ≡ 17408 → b ≡ 17408 → c ≡ 256 → d ≡ 256 → e ≡ 1024 → f ≡ 1024 → g ≡ 1024 → h ≡ 1024 → i ≡ 1024 → j ≡ 1024
-    → ◌≡◌ {A = Scratch} (record { starts = a; before = b; last_of = c; first_of = d; next_of = e; numbers = f; masks = g; words0 = h; words1 = i; earlier = j }) held_scratch
+    → ◌≡◌ {A = Lengths} (record { starts = a; before = b; last_of = c; first_of = d; next_of = e; numbers = f; masks = g; words0 = h; words1 = i; earlier = j }) held_scratch
 scratch_of_lem a b c d e f g h i j e1 e2 e3 e4 e5 e6 e7 e8 e9 e10 = rw (e1, e2, e3, e4, e5, e6, e7, e8, e9, e10) refl
 
-pub scratch_is : (s : Scratch) → s.starts ≡ 17408 → s.before ≡ 17408 → s.last_of ≡ 256 → s.first_of ≡ 256 → s.next_of ≡ 1024 → s.numbers ≡ 1024 → s.masks ≡ 1024
+pub scratch_is : (s : Lengths) → s.starts ≡ 17408 → s.before ≡ 17408 → s.last_of ≡ 256 → s.first_of ≡ 256 → s.next_of ≡ 1024 → s.numbers ≡ 1024 → s.masks ≡ 1024
     → s.words0 ≡ 1024 → s.words1 ≡ 1024 → s.earlier ≡ 1024 → s ≡ held_scratch
 scratch_is s = scratch_of_lem s.starts s.before s.last_of s.first_of s.next_of s.numbers s.masks s.words0 s.words1 s.earlier
 
@@ -136,7 +137,7 @@ module _ (n : State) (bs ds os cs cds cos es ws ts : List ℕ) (ps : List Float)
       no e = cc
 
   -- a model that is accepted is decomposed
-  pub accepted_read : (was : Tables) (sc : Scratch) (r : Result Counts Refusal) (left : Tables) → ModelChecked n bs ds os cs cds cos es zeros (Ok tt) ps
+  pub accepted_read : (was : Tables) (sc : Lengths) (r : Result Counts Refusal) (left : Tables) → ModelChecked n bs ds os cs cds cos es zeros (Ok tt) ps
       → Decomposes (outcome n.detectors n.observables n.mechanisms (tables ps ds os cs cds cos es) was sc) r was left → was ≡ held_tables → sc ≡ held_scratch
       → DecomposedRead n (columns bs ds os cs cds cos es ws ts) r left
   accepted_read was sc r left m d w h =
@@ -167,7 +168,7 @@ module _ (n : State) (bs ds os cs cds cos es ws ts : List ℕ) (zs : List Float)
   unfolding check_read
   check_is = rw (le-ltb (length bs) n.mechanisms long_bits, le-ltb (length zs) n.mechanisms fits) refl
 
-  module _ (was : Tables) (sc : Scratch) (h : Held was) (long-scratch : Scratched sc) where
+  module _ (was : Tables) (sc : Lengths) (h : Held was) (long-scratch : Scratched sc) where
     accepted_held : ModelChecked n bs ds os cs cds cos es zs (Ok tt) (from_bits n.mechanisms bs zs) → (Ok tt) ≡ all
         → outcome n.detectors n.observables n.mechanisms read was sc ≡ split_read n.detectors n.observables (model_read s.mechanisms)
     unfolding outcome checked long tables_hold split_read
@@ -264,11 +265,10 @@ bare D O e r entry exit c = record { sheet = c.sheet; answer = c.answer; ends = 
 -- ---- both
 
 -- tables that are zero, and a refusal
-pub refused_zero : (D O : ℕ) (x : Refusal) (r : Result ℕ Refusal) (entry exit : Slices) → r ≡ Err x → exit.edge_u ≡ replicate (length entry.edge_u) 0
-    → exit.edge_v ≡ replicate (length entry.edge_v) 0 → exit.edge_weight ≡ replicate (length entry.edge_weight) (fin false 0 (pos 0))
-    → exit.edge_obs ≡ replicate (length entry.edge_obs) 0 → Compiles D O (edges.refused x) r entry exit
+pub refused_zero : (D O : ℕ) (x : Refusal) (r : Result ℕ Refusal) (t t' : EdgeTables) → r ≡ Err x → Zeroed t t'
+    → Compiles D O (edges.refused x) r (slices_of t []) (slices_of t' [])
 unfolding graph.answer_of graph.call_row table_left
-refused_zero D O x r entry exit a u v w o = record { sheet = ap graph.sheet_of a; answer = a; ends = u; others = v; weights = w; rows = o }
+refused_zero D O x r t t' a z = record { sheet = ap graph.sheet_of a; answer = a; ends = z.edge_u; others = z.edge_v; weights = z.edge_weight; rows = z.edge_obs }
 
 module _ (n : State) (c : Columns) (left : Tables) (entry exit : Slices) (r : Result ℕ Refusal) where
   -- a refusal of decomposition is the answer
@@ -327,9 +327,11 @@ take_within m l =
     let e : min m (length l) ≡ length l = omega arith in
     ap (λ (k : ℕ). take k l) e ∙ take-length l ∙ sym (take_all m l (omega arith)))
 
-pub held_is : (k m : ℕ) (counts : List (List ℕ)) (out : List ℕ) → m ≡ min (length counts) 1024 → take m out ≡ take m (column 0 k counts) → take (m - 0) out ≡ held k counts
-held_is k m counts out e q =
-    ap (λ (j : ℕ). take j out) (sub-zero m) ∙ q ∙ ap (λ (j : ℕ). take j (column 0 k counts)) (e ∙ ap (λ (j : ℕ). min j 1024) (sym (column_length 0 k counts)) ∙ min_comm (length (column 0 k counts)) 1024) ∙ take_within 1024 (column 0 k counts)
+pub held_is : (f : Row → ℕ) (m : ℕ) (counts : List Row) (out : List ℕ) → m ≡ min (length counts) 1024 → take m out ≡ take m (map f counts) → take (m - 0) out ≡ held (map f counts)
+held_is f m counts out e q =
+    ap (λ (j : ℕ). take j out) (sub-zero m) ∙ q
+    ∙ ap (λ (j : ℕ). take j (map f counts)) (e ∙ ap (λ (j : ℕ). min j 1024) (sym (length-map counts f)) ∙ min_comm (length (map f counts)) 1024)
+    ∙ take_within 1024 (map f counts)
 
 pub graph_by_lem : (n : State) (bs ds os cs cds cos ds' os' cs' cds' cos' es : List ℕ) (entry : Slices) (r : Result ℕ Refusal) (exit : Slices) → ds ≡ ds' → os ≡ os' → cs ≡ cs' → cds ≡ cds' → cos ≡ cos'
     → GraphBy n bs ds os cs cds cos es entry r exit → GraphBy n bs ds' os' cs' cds' cos' es entry r exit

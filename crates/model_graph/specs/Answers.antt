@@ -2,7 +2,6 @@
 use Rattle.std.specs.Prelude.{Result, ℕ, ◌≤◌, ◌≡◌, List, length, take}
 use Rattle.codes.specs.declared.Refusal.{Refusal}
 use Rattle.split_model.specs.declared.Counts.{Counts}
-use Rattle.counts.specs.Rows.{column}
 use Rattle.dem.specs.Model.{ErrorMechanism}
 use Rattle.dem.specs.Tables.{Tables, tables_written}
 use Rattle.dem.specs.Decompose.{into}
@@ -31,8 +30,8 @@ pub record Wide (t : Slices) : Type 0 where
   pub rows : 2048 ≤ length t.edge_obs
 
 -- a column of the table of counts, as far as rows are held
-abbrev pub held : ℕ → List (List ℕ) → List ℕ
-held k counts = take 1024 (column 0 k counts)
+abbrev pub held : List ℕ → List ℕ
+held = take 1024
 
 -- ---- answers
 

@@ -6,7 +6,7 @@ use Rattle.dem.specs.Decompose.{Places, Split, decompose}
 use Rattle.dem.specs.Decompose as split
 use Rattle.dem.specs.Tables.{Tables, tables_written}
 use Rattle.dem.specs.Positions.{tables}
-use Rattle.decompose.specs.declared.Scratch.{Scratch}
+use Rattle.decompose.specs.declared.Lengths.{Lengths}
 use Rattle.decompose.specs.Call.{outcome_of, outcome}
 use Rattle.edges.specs.Compile.{Edges, refused, compile}
 use Rattle.edges.specs.Tables.{Slices, slices}
@@ -45,7 +45,7 @@ abbrev pub held_tables : Tables
 held_tables = tables zeros (replicate 1024 0) (replicate 1024 0) (replicate 1024 0) (replicate 1024 0) (replicate 1024 0) (replicate 8192 0)
 
 -- scratch for 256 detectors and 1,024 mechanisms, 17 entries a mechanism where new ones are linked
-abbrev pub held_scratch : Scratch
+abbrev pub held_scratch : Lengths
 held_scratch = record { starts = 17408; before = 17408; last_of = 256; first_of = 256; next_of = 1024; numbers = 1024; masks = 1024; words0 = 1024; words1 = 1024; earlier = 1024 }
 
 -- the model in the tables: its check, then decomposition

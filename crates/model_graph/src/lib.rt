@@ -1,52 +1,33 @@
 // docs/RULES.md, "Frames": at 04 the model that was read is checked, decomposed and compiled.
 #![tactic(auto)]
 
-ghost use Rattle.std.specs.Prelude.{◌≡◌, [], replicate};
-ghost use Rattle.dem.specs.Positions.{tables};
-ghost use Rattle.edges.specs.Tables.{slices};
-ghost use Rattle.graph.specs.Outcome.{outcome, Compiles};
-ghost use Rattle.model_graph.specs.Graph.{zeros, held_tables};
-ghost use Rattle.model_graph.specs.Answers.{DecomposedBy, GraphBy, held};
+ghost use Rattle.std.specs.Prelude.{◌≡◌, []};
+ghost use Rattle.dem.specs.Lent.{tables_out, SameOutput};
+ghost use Rattle.edges.specs.Lent.{slices_of, SameEdges};
+ghost use Rattle.graph.specs.Outcome.{Compiles};
+ghost use Rattle.model_graph.specs.Graph.{held_tables};
+ghost use Rattle.model_graph.specs.Lent.{DecomposedIn, GraphIn, GraphOfRows, compiled_in};
 
 use codes::Refusal;
+use counts::Row;
+use cover::CandidateTables;
+use decompose::Scratch;
+use dem::{Model, Output};
+use edges::EdgeTables;
 use frames::State;
+use model_check::ReadModel;
 use split_model::Counts;
 
 // ---- 04
 
-// The model checked and decomposed into output tables. The scratch of the call is its own. Long for its parameters, one a line.
-fn decompose_read(
-    n: State,
-    probability_bits: &[u64],
-    detector_counts: &[u8],
-    observable_counts: &[u8],
-    component_counts: &[u8],
-    component_detectors: &[u8],
-    component_observables: &[u8],
-    entries: &[u32],
-    out_probability: &mut [f64],
-    out_detector_counts: &mut [u8],
-    out_observable_counts: &mut [u8],
-    out_component_counts: &mut [u8],
-    out_component_detectors: &mut [u8],
-    out_component_observables: &mut [u8],
-    out_entries: &mut [u32],
-) -> Result<Counts, Refusal>
-    requires { tables out_probability.old out_detector_counts.old out_observable_counts.old out_component_counts.old out_component_detectors.old out_component_observables.old out_entries.old ≡ held_tables }
-    ensures { DecomposedBy n probability_bits.now detector_counts.now observable_counts.now component_counts.now component_detectors.now component_observables.now entries.now result (tables out_probability.new out_detector_counts.new out_observable_counts.new out_component_counts.new out_component_detectors.new out_component_observables.new out_entries.new) }
+// The model checked and decomposed into output tables. The scratch of the call is its own.
+fn decompose_read(n: State, read: &ReadModel, out: &mut Output) -> Result<Counts, Refusal>
+    requires { tables_out out.old ≡ held_tables }
+    ensures decomposed { DecomposedIn n read.now result (tables_out out.new) }
+    ensures same { SameOutput out.old out.new }
 {
     let mut probability = [0.0f64; 1024];
-    model_check::check_read(
-        n,
-        probability_bits,
-        detector_counts,
-        observable_counts,
-        component_counts,
-        component_detectors,
-        component_observables,
-        entries,
-        &mut probability,
-    )?;
+    model_check::check_read(n, read, &mut probability)?;
     let mut starts = [0u32; 17408];
     let mut before = [0u32; 17408];
     let mut last_of = [0u32; 256];
@@ -57,139 +38,93 @@ fn decompose_read(
     let mut words0 = [0u64; 1024];
     let mut words1 = [0u64; 1024];
     let mut earlier = [0u32; 1024];
-    graphlike::decompose_graphlike(
-        n.detectors,
-        n.observables,
-        n.mechanisms,
-        &probability,
-        detector_counts,
-        observable_counts,
-        component_counts,
-        component_detectors,
-        component_observables,
-        entries,
-        out_probability,
-        out_detector_counts,
-        out_observable_counts,
-        out_component_counts,
-        out_component_detectors,
-        out_component_observables,
-        out_entries,
-        &mut starts,
-        &mut before,
-        &mut last_of,
-        &mut first_of,
-        &mut next_of,
-        &mut numbers,
-        &mut masks,
-        &mut words0,
-        &mut words1,
-        &mut earlier,
-    )
+    let model = Model {
+        detectors: n.detectors,
+        observables: n.observables,
+        mechanisms: n.mechanisms,
+        probability: &probability,
+        detector_counts: read.detector_counts,
+        observable_counts: read.observable_counts,
+        component_counts: read.component_counts,
+        component_detectors: read.component_detectors,
+        component_observables: read.component_observables,
+        entries: read.entries,
+    };
+    let candidates = CandidateTables {
+        numbers: &mut numbers,
+        masks: &mut masks,
+        words0: &mut words0,
+        words1: &mut words1,
+        earlier: &mut earlier,
+    };
+    let mut s = Scratch {
+        starts: &mut starts,
+        before: &mut before,
+        last_of: &mut last_of,
+        first_of: &mut first_of,
+        next_of: &mut next_of,
+        candidates,
+    };
+    graphlike::decompose_graphlike(&model, out, &mut s)
 }
 
-// The graph of a decomposed model. Long for its parameters, one a line.
+// The graph of a decomposed model, of so many mechanisms. The scratch of the call is its own.
 fn compile(
-    detectors: usize,
-    observables: usize,
+    n: State,
     mechanisms: usize,
-    probability: &[f64],
-    detector_counts: &[u8],
-    observable_counts: &[u8],
-    component_counts: &[u8],
-    component_detectors: &[u8],
-    component_observables: &[u8],
-    entries: &[u32],
-    edge_u: &mut [u32],
-    edge_v: &mut [u32],
-    edge_weight: &mut [f64],
-    edge_obs: &mut [u64],
+    out: &Output,
+    edges: &mut EdgeTables,
 ) -> Result<usize, Refusal>
-    ensures { Compiles detectors observables (outcome detectors observables mechanisms (tables probability.now detector_counts.now observable_counts.now component_counts.now component_detectors.now component_observables.now entries.now) (slices edge_u.old edge_v.old edge_weight.old edge_obs.old zeros) (replicate 256 0) (replicate 1024 0)) result (slices edge_u.old edge_v.old edge_weight.old edge_obs.old []) (slices edge_u.new edge_v.new edge_weight.new edge_obs.new []) }
+    ensures compiles { Compiles n.detectors n.observables (compiled_in n mechanisms out.now edges.old) result (slices_of edges.old []) (slices_of edges.new []) }
+    ensures same { SameEdges edges.old edges.new }
 {
+    let model = Model {
+        detectors: n.detectors,
+        observables: n.observables,
+        mechanisms,
+        probability: &*out.probability,
+        detector_counts: &*out.detector_counts,
+        observable_counts: &*out.observable_counts,
+        component_counts: &*out.component_counts,
+        component_detectors: &*out.component_detectors,
+        component_observables: &*out.component_observables,
+        entries: &*out.entries,
+    };
     let mut edge_p = [0.0f64; 1024];
     let mut first = [0u32; 256];
     let mut next = [0u32; 1024];
-    graph::from_model(
-        detectors,
-        observables,
-        mechanisms,
-        probability,
-        detector_counts,
-        observable_counts,
-        component_counts,
-        component_detectors,
-        component_observables,
-        entries,
-        edge_u,
-        edge_v,
-        edge_weight,
-        edge_obs,
-        &mut edge_p,
-        &mut first,
-        &mut next,
-    )
+    let mut s = edges::Scratch {
+        edge_p: &mut edge_p,
+        first: &mut first,
+        next: &mut next,
+    };
+    graph::from_model(&model, edges, &mut s)
 }
 
-// The graph of the model in columns, into its tables. Long for its parameters, one a line.
-fn graph_of(
-    n: State,
-    probability_bits: &[u64],
-    detector_counts: &[u8],
-    observable_counts: &[u8],
-    component_counts: &[u8],
-    component_detectors: &[u8],
-    component_observables: &[u8],
-    entries: &[u32],
-    edge_u: &mut [u32],
-    edge_v: &mut [u32],
-    edge_weight: &mut [f64],
-    edge_obs: &mut [u64],
-) -> Result<usize, Refusal>
-    ensures { GraphBy n probability_bits.now detector_counts.now observable_counts.now component_counts.now component_detectors.now component_observables.now entries.now (slices edge_u.old edge_v.old edge_weight.old edge_obs.old []) result (slices edge_u.new edge_v.new edge_weight.new edge_obs.new []) }
+// The graph of the model in columns, into its tables.
+fn graph_of(n: State, read: &ReadModel, edges: &mut EdgeTables) -> Result<usize, Refusal>
+    ensures graph { GraphIn n read.now (slices_of edges.old []) result (slices_of edges.new []) }
+    ensures same { SameEdges edges.old edges.new }
 {
-    let mut out_probability = [0.0f64; 1024];
-    let mut out_detector_counts = [0u8; 1024];
-    let mut out_observable_counts = [0u8; 1024];
-    let mut out_component_counts = [0u8; 1024];
-    let mut out_component_detectors = [0u8; 1024];
-    let mut out_component_observables = [0u8; 1024];
-    let mut out_entries = [0u32; 8192];
-    let decomposed = decompose_read(
-        n,
-        probability_bits,
-        detector_counts,
-        observable_counts,
-        component_counts,
-        component_detectors,
-        component_observables,
-        entries,
-        &mut out_probability,
-        &mut out_detector_counts,
-        &mut out_observable_counts,
-        &mut out_component_counts,
-        &mut out_component_detectors,
-        &mut out_component_observables,
-        &mut out_entries,
-    );
-    match decomposed {
-        Err(r) => graph::refuse(r, edge_u, edge_v, edge_weight, edge_obs),
-        Ok(counts) => compile(
-            n.detectors,
-            n.observables,
-            counts.mechanisms,
-            &out_probability,
-            &out_detector_counts,
-            &out_observable_counts,
-            &out_component_counts,
-            &out_component_detectors,
-            &out_component_observables,
-            &out_entries,
-            edge_u,
-            edge_v,
-            edge_weight,
-            edge_obs,
-        ),
+    let mut probability = [0.0f64; 1024];
+    let mut detector_counts = [0u8; 1024];
+    let mut observable_counts = [0u8; 1024];
+    let mut component_counts = [0u8; 1024];
+    let mut component_detectors = [0u8; 1024];
+    let mut component_observables = [0u8; 1024];
+    let mut entries = [0u32; 8192];
+    let mut out = Output {
+        probability: &mut probability,
+        detector_counts: &mut detector_counts,
+        observable_counts: &mut observable_counts,
+        component_counts: &mut component_counts,
+        component_detectors: &mut component_detectors,
+        component_observables: &mut component_observables,
+        entries: &mut entries,
+    };
+    match decompose_read(n, read, &mut out) {
+        Err(r) => graph::refuse(r, edges),
+        Ok(counts) => compile(n, counts.mechanisms, &out, edges),
     }
 }
 
@@ -197,33 +132,23 @@ fn graph_of(
 pub fn model_graph(
     n: State,
     probability_bits: &[u64],
-    counts: &[[u8; 5]],
+    counts: &[Row],
     entries: &[u32],
-    edge_u: &mut [u32],
-    edge_v: &mut [u32],
-    edge_weight: &mut [f64],
-    edge_obs: &mut [u64],
+    edges: &mut EdgeTables,
 ) -> Result<usize, Refusal>
-    ensures { GraphBy n probability_bits.now (held 0 counts.now) (held 1 counts.now) (held 2 counts.now) (held 3 counts.now) (held 4 counts.now) entries.now (slices edge_u.old edge_v.old edge_weight.old edge_obs.old []) result (slices edge_u.new edge_v.new edge_weight.new edge_obs.new []) }
+    ensures graph { GraphOfRows n probability_bits.now counts.now entries.now (slices_of edges.old []) result (slices_of edges.new []) }
+    ensures same { SameEdges edges.old edges.new }
 {
     let rows = counts.len().min(frames::MAX_MECHANISMS);
-    let detector_counts = counts::column_of(counts, counts::DETECTORS, rows);
-    let observable_counts = counts::column_of(counts, counts::OBSERVABLES, rows);
-    let component_counts = counts::column_of(counts, counts::COMPONENTS, rows);
-    let component_detectors = counts::column_of(counts, counts::COMPONENT_DETECTORS, rows);
-    let component_observables = counts::column_of(counts, counts::COMPONENT_OBSERVABLES, rows);
-    graph_of(
-        n,
+    let columns = counts::take_columns(counts, rows);
+    let read = ReadModel {
         probability_bits,
-        &detector_counts[0..rows],
-        &observable_counts[0..rows],
-        &component_counts[0..rows],
-        &component_detectors[0..rows],
-        &component_observables[0..rows],
+        detector_counts: &columns.detectors[0..rows],
+        observable_counts: &columns.observables[0..rows],
+        component_counts: &columns.components[0..rows],
+        component_detectors: &columns.component_detectors[0..rows],
+        component_observables: &columns.component_observables[0..rows],
         entries,
-        edge_u,
-        edge_v,
-        edge_weight,
-        edge_obs,
-    )
+    };
+    graph_of(n, &read, edges)
 }

@@ -1,76 +1,52 @@
 // docs/RULES.md, "Refusals", 2: the lengths that decomposition asks of its output tables and its scratch.
 #![tactic(auto)]
 
-ghost use Rattle.std.specs.Prelude.{◌≡◌, ◌&&◌, ◌≤◌, leb};
+ghost use Rattle.std.specs.Prelude.{◌≡◌, ◌&&◌, ◌≤◌};
 ghost use Rattle.codes.specs.Limits.{max_mechanisms};
 ghost use Rattle.dem.specs.Tables.{columns_hold, lists_hold};
-ghost use Rattle.dem.specs.Positions.{tables};
+ghost use Rattle.dem.specs.Lent.{tables_out};
 ghost use Rattle.suggested.specs.Held.{places_of};
 ghost use Rattle.decompose.specs.Call.{room_of, scratch_long};
 
-use decompose::Scratch;
-use dem::Place;
+use decompose::Lengths;
+use dem::{Output, Place};
 use suggested::Size;
-
-// Whether a slice is long enough, and so are the others.
-pub fn fits(need: usize, len: usize, others: bool) -> bool
-    ensures { result ≡ (leb need len && others) }
-{
-    need <= len && others
-}
 
 // The output tables are long enough for the model given.
 #[tactic(auto, unfolding(dem::specs::Tables::columns_hold, dem::specs::Tables::lists_hold))]
-pub fn output_long(
-    mechanisms: usize,
-    end: Place,
-    out_probability: &[f64],
-    out_detector_counts: &[u8],
-    out_observable_counts: &[u8],
-    out_component_counts: &[u8],
-    out_component_detectors: &[u8],
-    out_component_observables: &[u8],
-    out_entries: &[u32],
-) -> bool
-    ensures { result ≡ (columns_hold mechanisms (tables out_probability.now out_detector_counts.now out_observable_counts.now out_component_counts.now out_component_detectors.now out_component_observables.now out_entries.now) && lists_hold end.component end.entry (tables out_probability.now out_detector_counts.now out_observable_counts.now out_component_counts.now out_component_detectors.now out_component_observables.now out_entries.now)) }
+pub fn output_long(mechanisms: usize, end: Place, out: &Output) -> bool
+    ensures { result ≡ (columns_hold mechanisms (tables_out out.now) && lists_hold end.component end.entry (tables_out out.now)) }
 {
     let n = mechanisms;
     let c = end.component;
-    let columns = n <= out_probability.len()
-        && n <= out_detector_counts.len()
-        && n <= out_observable_counts.len()
-        && n <= out_component_counts.len();
-    let lists = c <= out_component_detectors.len()
-        && c <= out_component_observables.len()
-        && end.entry <= out_entries.len();
+    let columns = n <= out.probability.len()
+        && n <= out.detector_counts.len()
+        && n <= out.observable_counts.len()
+        && n <= out.component_counts.len();
+    let lists = c <= out.component_detectors.len()
+        && c <= out.component_observables.len()
+        && end.entry <= out.entries.len();
     columns && lists
 }
 
 // The lent places of the output tables: mechanisms by the shortest of the four columns, entries by the last table.
-pub fn room(
-    out_probability: &[f64],
-    out_detector_counts: &[u8],
-    out_observable_counts: &[u8],
-    out_component_counts: &[u8],
-    out_component_detectors: &[u8],
-    out_component_observables: &[u8],
-    out_entries: &[u32],
-) -> Size
-    ensures { places_of result ≡ room_of (tables out_probability.now out_detector_counts.now out_observable_counts.now out_component_counts.now out_component_detectors.now out_component_observables.now out_entries.now) }
+pub fn room(out: &Output) -> Size
+    ensures { places_of result ≡ room_of (tables_out out.now) }
 {
     Size {
-        mechanisms: out_probability
+        mechanisms: out
+            .probability
             .len()
-            .min(out_detector_counts.len())
-            .min(out_observable_counts.len())
-            .min(out_component_counts.len()),
-        entries: out_entries.len(),
+            .min(out.detector_counts.len())
+            .min(out.observable_counts.len())
+            .min(out.component_counts.len()),
+        entries: out.entries.len(),
     }
 }
 
 // And so are the scratch slices: a mechanism may bring 16 more.
 #[tactic(auto, unfolding(decompose::specs::Call::scratch_long))]
-pub fn scratch_long(detectors: usize, mechanisms: usize, s: Scratch) -> bool
+pub fn scratch_long(detectors: usize, mechanisms: usize, s: Lengths) -> bool
     requires { mechanisms ≤ max_mechanisms }
     ensures { result ≡ scratch_long detectors mechanisms s }
 {

@@ -3,3 +3,4 @@ pub mod Stored
 pub mod Reading
 pub mod Laws
 pub mod Parts
+pub mod Lent

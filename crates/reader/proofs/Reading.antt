@@ -1,10 +1,10 @@
 -- A line's answer and what it stores are those of the definition.
 use Rattle.std.specs.Prelude.{Option, None, Some}
 use Rattle.std.specs.Prelude.{Result, Ok, Err}
-use Prim.Native.Nat.{ℕ, ◌+◌, ◌*◌, ◌<◌, ◌≤◌}
+use Prim.Native.Nat.{ℕ, ◌+◌, ◌*◌, ◌≤◌}
 use native.Mathlib.Omega.{arith}
 use mathlib.Core.Path.{◌≡◌, refl, sym, ap, ap₂, ◌∙◌}
-use mathlib.Core.List.{List, [], ◌∷◌, ◌++◌}
+use mathlib.Core.List.{List, ◌++◌}
 use mathlib.Core.Bool.{Bool, true, false, cond}
 use lib.ListN.{length, get_or, take, drop}
 use lib.Seq.{drop-drop}
@@ -20,7 +20,7 @@ use Rattle.frames.specs.declared.State.{State}
 use Rattle.frames.specs.Frames.{Frame, header, mechanism, component, end, row, truth, kind_of, symptom_long, symptom_of, when, frame_of}
 use Rattle.frames.specs.Input.{Input, Read, next, refused, in_order, after, over, read_line}
 use Rattle.frames.specs.Counts.{counts_of, answer_of, count_after, over_counts, capped, frame_line, line_of}
-use Rattle.frames.proofs.FrameKinds.{frame_1, frame_2, frame_3, frame_4, frame_5, frame_6, frame_none, none_empty, order_none, held_of, first_count, second_count}
+use Rattle.frames.proofs.FrameKinds.{frame_1, frame_2, frame_3, frame_4, frame_5, frame_6, held_of, first_count, second_count}
 use Rattle.frames.proofs.Answers.{answers, counts_after, follows, order_component}
 use Rattle.reader.specs.Columns.{Columns, columns_at, roomy, listed, answer_to, stored_frame, stored, Storable, Holds, read_by, LineRead}
 use Rattle.reader.proofs.Stored.{room_of_lem, WordsFit, store_frame}
@@ -114,11 +114,6 @@ taken n line t e =
     let (o, q) = cond_next (in_order n.stage n.mechanisms (kind_of (bytes_of line))) _ refusal.Frame t p in
     record { hex = h; order = o; frame = q }
 
--- a line in order has a kind
-some_long : (n : State) (l : List ℕ) → in_order n.stage n.mechanisms (kind_of l) ≡ true → 0 < length l
-some_long n [] h = clash h (order_none n.stage n.mechanisms 0 none_empty)
-some_long n (b ∷ l) h = omega arith
-
 module _ (n : State) (line : List ℕ) (c : Columns) (t : State) (w : over_counts n ≡ false) (g : roomy c ≡ true) (e : line_of n line ≡ Ok t) where
   pub storable : Storable n (bytes_of line) c
   unfolding count_after words
@@ -129,7 +124,6 @@ module _ (n : State) (line : List ℕ) (c : Columns) (t : State) (w : over_count
       let D = n.detectors in
       let O = n.observables in
       record {
-        kind = some_long n l k.order;
         mechanism = λ h.
             let (long, v) = when_next n t _ _ (rw (frame_2 D O l h) at k.frame) in
             let q = held_of (count_after n (mechanism (number (take 8 (drop 1 l))) (symptom_of (drop 9 l)))) v in
@@ -229,4 +223,4 @@ module _ (line : List ℕ) (n : State) (c : Columns) where
 
 -- ---- for the calls
 
-pub ruleset by_store = (stored_header, frame_2, frame_3, stored_end, frame_5, frame_6, frame_none, stored_when)
+pub ruleset by_store = (stored_header, frame_2, frame_3, stored_end, stored_when)

@@ -6,7 +6,8 @@ use Rattle.std.proofs.lemmas.List.Edits.{sets}
 use Rattle.codes.specs.declared.Refusal.{Refusal}
 use Rattle.codes.specs.declared.Refusal.TheVariants as refusal
 use Rattle.bits.specs.Rows.{words}
-use Rattle.counts.specs.Rows.{column}
+use Rattle.counts.specs.declared.Row.{Row}
+use Rattle.counts.specs.Rows as counts
 use Rattle.hex_text.specs.Hex.{bytes_of}
 use Rattle.dem.specs.Model.{Symptom}
 use Rattle.dem.specs.Tables.{written}
@@ -45,8 +46,10 @@ columns bs ds os cs cds cos es ws ts = record {
 }
 
 -- the four tables as such: the columns of the table of counts, and the words of a shot, four of its row and then those of the true observables
-abbrev pub columns_of : List ℕ → List (List ℕ) → List ℕ → List ℕ → Columns
-columns_of bs counts es shot = columns bs (column 0 0 counts) (column 0 1 counts) (column 0 2 counts) (column 0 3 counts) (column 0 4 counts) es (take 4 shot) (drop 4 shot)
+abbrev pub columns_of : List ℕ → List Row → List ℕ → List ℕ → Columns
+columns_of bs rows es shot =
+    columns bs (counts.detectors rows) (counts.observables rows) (counts.components rows) (counts.component_detectors rows) (counts.component_observables rows) es
+    (take 4 shot) (drop 4 shot)
 
 -- a mechanism may have more components than a byte counts: 255 stands for 255 and more, which the model check refuses alike
 abbrev pub byte_of : ℕ → ℕ
@@ -138,7 +141,6 @@ stored n (Some f) c = stored_frame n f c
 
 -- a frame that may be stored: the line has its length, and the tables have its places
 pub record Storable (n : State) (l : List ℕ) (c : Columns) : Type 0 where
-  pub kind : 0 < length l
   pub mechanism : kind_of l ≡ 2 → (symptom_long (drop 9 l) ≡ true) × (n.mechanisms < 1024) × (n.entries + size_of (symptom_of (drop 9 l)) ≤ 8192)
   pub component : kind_of l ≡ 3
       → (symptom_long (drop 1 l) ≡ true) × (0 < n.mechanisms) × (n.mechanisms ≤ 1024) × (n.components < 1024) × (n.entries + size_of (symptom_of (drop 1 l)) ≤ 8192)

@@ -1,13 +1,13 @@
 -- Wrong programs, those that the scope names and others: each breaks the statement of demand 3.
-use Rattle.std.specs.Prelude.{Ok}
-use Rattle.std.specs.Prelude.{ℕ, ◌≡◌, List, [], ◌∷◌, Bool}
+use Rattle.std.specs.Prelude.{ℕ, ◌≡◌, List, [], ◌∷◌, Bool, Result, Ok}
 use Rattle.steps.specs.Graph.{Graph, boundary}
 use Rattle.steps.specs.Cases.{quarter_weight}
 use Rattle.steps.specs.Found.{Programs, Blank, Demand3}
 use Rattle.scratch.specs.Scratch.{lengths_for}
 use Rattle.lent_graph.specs.Call.{lent_of}
-use Rattle.decoder.specs.declared.Answer.{Answer}
-use Rattle.decoder.specs.declared.Answer.TheVariants as answer
+use Rattle.codes.specs.declared.Refusal.{Refusal}
+use Rattle.shot.specs.declared.Shot.{Shot}
+use Rattle.shot.specs.declared.Shot.TheVariants as answer
 use Rattle.decoder.specs.Answer.{Handed, handed, graph_of_call, checks, Decodes}
 use Rattle.demand3.specs.Stated.{Stated, rounds_told}
 use Rattle.refuted.specs.Wrong as Wrong
@@ -50,16 +50,16 @@ unfolding quarter_weight lengths_for
 d1 = handed (lent_of 2 1 2 (0 ∷ 0 ∷ []) (boundary ∷ 1 ∷ []) (quarter_weight ∷ quarter_weight ∷ []) (1 ∷ 0 ∷ [])) (2 ∷ []) 2 (0 ∷ []) (0 ∷ 0 ∷ []) (lengths_for 2 2)
 
 -- the answer r does not meet the statement
-abbrev pub Fails : Handed → Answer → Type 0
+abbrev pub Fails : Handed → Result Shot Refusal → Type 0
 Fails h r = (list row : List ℕ) → Stated h r list row → ⊥
 
 pub record RefutedCalls : Type 0 where
   -- "invented .. round counts": one too few, none, one too many
-  pub one_round_fewer : Fails d1 (answer.Decoded 1 2)
-  pub no_rounds : Fails d1 (answer.Decoded 0 2)
-  pub one_round_more : Fails d1 (answer.Decoded 3 2)
+  pub one_round_fewer : Fails d1 (Ok (answer.Decoded 1 2))
+  pub no_rounds : Fails d1 (Ok (answer.Decoded 0 2))
+  pub one_round_more : Fails d1 (Ok (answer.Decoded 3 2))
   -- "Stuck before growth on an explainable shot"
-  pub stuck_first : Fails d1 (answer.Stuck 0 1)
+  pub stuck_first : Fails d1 (Ok (answer.Stuck 0 1))
   -- on every call that is not refused: any count but that of the proved call
-  pub other_rounds : (h : Handed) (r : Answer) (list row : List ℕ) → Decodes h r list row → checks h ≡ Ok tt → Blank (graph_of_call h) h.row
-      → (s : Answer) → (rounds_told s ≡ rounds_told r → ⊥) → Fails h s
+  pub other_rounds : (h : Handed) (r : Result Shot Refusal) (list row : List ℕ) → Decodes h r list row → checks h ≡ Ok tt → Blank (graph_of_call h) h.row
+      → (s : Result Shot Refusal) → (rounds_told s ≡ rounds_told r → ⊥) → Fails h s

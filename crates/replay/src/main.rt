@@ -36,16 +36,16 @@ fn take(list: &mut impl Read, n: usize, to: &mut [u8]) -> io::Result<bool> {
     }
 }
 
-// The length at a digit of a head.
-fn size_at(head: &[u8], at: usize) -> usize
+// The length at byte `at` of a head, unless it ends before.
+fn size_at(head: &[u8], at: usize) -> Option<usize>
     requires { at ≤ 4 }
 {
     if hex_text::byte_count(head) < at + 4 {
-        return 0;
+        return None;
     }
     let high = hex_text::u16_at(head, at);
     let low = hex_text::u16_at(head, at + 2);
-    65536 * usize::from(high) + usize::from(low)
+    Some(65536 * usize::from(high) + usize::from(low))
 }
 
 // An input answered, and compared.
@@ -67,8 +67,9 @@ fn next_case(
     if head.len() < 17 || !take(list, 17, head)? {
         return Ok(Case::Last);
     }
-    let given = size_at(&head[..16], 0);
-    let told = size_at(&head[..16], 4);
+    let (Some(given), Some(told)) = (size_at(&head[..16], 0), size_at(&head[..16], 4)) else {
+        return Ok(Case::Wrong);
+    };
     if input.len() < given || expected.len() < told {
         return Ok(Case::Wrong);
     }

@@ -1,4 +1,5 @@
-pub mod Cleaned
 pub mod CleanRows
+pub mod Cleaned
 pub mod Cuts
+pub mod Entries
 pub mod Rows

@@ -1,21 +1,19 @@
 // Tables at rest: put to rest as a call begins, and after each shot what it has changed.
 #![tactic(auto)]
 
-ghost use Rattle.std.specs.Prelude.{◌+◌, ◌<◌, ◌≡◌, length, take, set, replicate, false, map};
+ghost use Rattle.std.specs.Prelude.{◌<◌, ◌≡◌, length, set, replicate, false, map};
 ghost use Rattle.std.proofs.Math.Seq.{slice};
 ghost use Rattle.std.specs.Float.{binary64};
 ghost use Rattle.std.specs.Float.Ieee.{of_bits};
-ghost use Rattle.growth_state.specs.Rep.{Used};
-ghost use Rattle.rest.specs.Clean.{Clean, Stretch, Cleared, Cleaning};
-ghost use Rattle.cells.specs.Tables.{parents, exits, lits, knowns, odds, hots, frees, seen};
-ghost use Rattle.adjacency.specs.Pairs.{near, away};
 ghost use Rattle.lists.specs.Lists.{below};
+ghost use Rattle.adjacency.specs.Pairs.{near};
+ghost use Rattle.rest.specs.Clean.{Stretch, Cleared};
 ghost use Rattle.rest.specs.Rows.{cut, alone, quiet, Spaces, Rested};
+ghost use Rattle.rest.specs.Lent.{CleanIn, CleaningIn, UsedIn};
 
-use adjacency::Neighbor;
+use adjacency::{Incidence, Neighbor};
 use cells::{Flags, Node, Stack};
-
-const BOUNDARY: u32 = 4294967295;
+use lent_graph::Graph;
 
 // A detector at rest: a cluster of its own, without exit.
 fn alone(x: u32) -> Node
@@ -23,7 +21,7 @@ fn alone(x: u32) -> Node
 {
     Node {
         parent: x,
-        exit: BOUNDARY,
+        exit: lent_graph::BOUNDARY,
     }
 }
 
@@ -40,20 +38,18 @@ pub fn clean_edges(adj: &[Neighbor], start: usize, end: usize, growth: &mut [f64
     requires { Stretch (near adj.now) start end (length sat.old) × (length growth.old ≡ length sat.old) }
     ensures { Cleared (slice start end (near adj.now)) growth.old sat.old growth.new sat.new }
 {
-    for k in start..end {
-        let e = adj[k].edge as usize;
+    for neighbor in &adj[start..end] {
+        let e = neighbor.edge as usize;
         shrink(growth, e);
         sat[e] = false;
     }
 }
 
 // The n detectors seen and their edges are at rest. A detector's rows are stored whole.
+// kept: each table by itself, so that what it leaves alone needs no clause
 pub fn clean(
-    d: usize,
-    edge_u: &[u32],
-    edge_v: &[u32],
-    adj_offsets: &[u32],
-    adj: &[Neighbor],
+    g: &Graph,
+    adj: &Incidence,
     tree: &mut [Node],
     flags: &mut [Flags],
     stacks: &[Stack],
@@ -61,18 +57,20 @@ pub fn clean(
     sat: &mut [bool],
     n: usize,
 )
-    requires cleaning { Cleaning d edge_u.now edge_v.now adj_offsets.now (near adj.now) (away adj.now) (seen stacks.now) n }
-    requires used { Used d edge_u.now edge_v.now (take n (seen stacks.now)) (lits flags.old) growth.old sat.old (knowns flags.old) (parents tree.old) (odds flags.old) (exits tree.old) (hots flags.old) (frees flags.old) }
-    ensures clean { Clean d (length edge_u.now) (lits flags.new) growth.new sat.new (knowns flags.new) (parents tree.new) (odds flags.new) (exits tree.new) (hots flags.new) (frees flags.new) }
+    requires cleaning { CleaningIn g.now adj.now stacks.now n }
+    requires used { UsedIn g.now tree.old flags.old stacks.now growth.old sat.old n }
+    ensures clean { CleanIn g.now tree.new flags.new growth.new sat.new }
 {
-    for i in 0..n {
-        let x = stacks[i].seen;
+    let offsets = adj.offsets;
+    let neighbors = adj.neighbors;
+    for stack in &stacks[..n] {
+        let x = stack.seen;
         let k = x as usize;
         tree[k] = alone(x);
         flags[k] = cells::FLAGS;
-        let start = adj_offsets[k] as usize;
-        let end = adj_offsets[k + 1] as usize;
-        clean_edges(adj, start, end, growth, sat);
+        let start = offsets[k] as usize;
+        let end = offsets[k + 1] as usize;
+        clean_edges(neighbors, start, end, growth, sat);
     }
 }
 

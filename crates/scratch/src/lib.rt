@@ -1,10 +1,13 @@
 // The scratch slices of the decoder by their lengths, a slice for each table: docs/SCRATCH.md.
 #![tactic(auto)]
 
-ghost use Rattle.std.specs.Prelude.{◌≡◌, ◌&&◌, ◌≤◌, leb, ltb};
+ghost use Rattle.std.specs.Prelude.{◌≡◌, ◌≤◌};
 ghost use Rattle.codes.specs.Limits.{max_detectors, max_mechanisms};
-ghost use Rattle.scratch.specs.Scratch.{lengths_for, scratch_long};
+ghost use Rattle.scratch.specs.Scratch.{lengths_for, lengths_in, scratch_long};
 ghost use Rattle.scratch.specs.Laws.{each};
+
+use adjacency::Neighbor;
+use cells::Tables;
 
 #[repr(C)]
 #[derive(Clone, Copy, Default)]
@@ -17,6 +20,32 @@ pub struct Lengths {
     pub links: usize,
     pub growth: usize,
     pub sat: usize,
+}
+
+// The slices themselves, each lent for writing: any contents, and any are left.
+#[derive(Drop)]
+pub struct Scratch<'a> {
+    pub adj_offsets: &'a mut [u32],
+    pub adj: &'a mut [Neighbor],
+    pub tables: Tables<'a>,
+}
+
+impl Scratch<'_> {
+    // How long they are.
+    pub fn lengths(&self) -> Lengths
+        ensures { result ≡ lengths_in self.now }
+    {
+        Lengths {
+            adj_offsets: self.adj_offsets.len(),
+            adj: self.adj.len(),
+            tree: self.tables.tree.len(),
+            flags: self.tables.flags.len(),
+            stacks: self.tables.stacks.len(),
+            links: self.tables.links.len(),
+            growth: self.tables.growth.len(),
+            sat: self.tables.sat.len(),
+        }
+    }
 }
 
 // The least lengths, for counts within the limits.
@@ -42,20 +71,6 @@ pub fn no_lengths() -> Lengths
     ensures { result ≡ each 0 }
 {
     Lengths::default()
-}
-
-// Whether one slice has the entries needed, and so have the rest.
-pub fn fits(need: usize, len: usize, rest: bool) -> bool
-    ensures { result ≡ (leb need len && rest) }
-{
-    need <= len && rest
-}
-
-// The same of one entry more than n.
-pub fn fits_past(n: usize, len: usize, rest: bool) -> bool
-    ensures { result ≡ (ltb n len && rest) }
-{
-    n < len && rest
 }
 
 // Whether each slice has what the counts need, whatever they are: no product or sum of them is made.

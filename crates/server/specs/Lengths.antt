@@ -2,10 +2,10 @@
 use Rattle.std.specs.Prelude.{ℕ, ◌+◌, ◌*◌, Bool, cond, ◌&&◌, leb}
 use Rattle.bits.specs.Rows.{words}
 use Rattle.codes.specs.Limits.{max_detectors, max_mechanisms}
+use Rattle.decompose.specs.declared.Lengths as decomposition
 use Rattle.scratch.specs.declared.Lengths.{Lengths}
 use Rattle.scratch.specs.Scratch.{lengths_for}
 use Rattle.scratch.specs.Laws.{each}
-use Rattle.server.specs.declared.DecomposeLengths.{DecomposeLengths}
 use Rattle.server.specs.declared.CompileLengths.{CompileLengths}
 use Rattle.server.specs.declared.MarkLengths.{MarkLengths}
 
@@ -18,11 +18,11 @@ unfoldable pub decode_lengths : ℕ → ℕ → Lengths
 unfolding lengths_for
 decode_lengths D E = cond (within D E) (lengths_for D E) (each 0)
 
-abbrev pub decompose_with : ℕ → ℕ → DecomposeLengths
+abbrev pub decompose_with : ℕ → ℕ → decomposition.Lengths
 decompose_with D n = record { starts = 17 * n; before = 17 * n; last_of = D; first_of = D; next_of = n; numbers = n; masks = n; words0 = n; words1 = n; earlier = n }
 
 -- of decomposition
-unfoldable pub decompose_lengths : ℕ → ℕ → DecomposeLengths
+unfoldable pub decompose_lengths : ℕ → ℕ → decomposition.Lengths
 decompose_lengths D n = cond (within D n) (decompose_with D n) (decompose_with 0 0)
 
 abbrev pub compile_with : ℕ → ℕ → CompileLengths

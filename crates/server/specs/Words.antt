@@ -8,8 +8,8 @@ use Rattle.split_model.specs.declared.Counts.{Counts}
 use Rattle.std.specs.Float.{Float}
 use Rattle.codes.specs.Codes.{code_of, first_of, second_of}
 use Rattle.codes.specs.declared.Refusal.TheVariants as refusal
-use Rattle.decoder.specs.declared.Answer.{Answer}
-use Rattle.decoder.specs.declared.Answer.TheVariants as answer
+use Rattle.shot.specs.declared.Shot.{Shot}
+use Rattle.shot.specs.declared.Shot.TheVariants as answer
 use Rattle.marking.specs.declared.Marking.{Marking}
 use Rattle.marking.specs.declared.Marking.TheVariants as marking
 use Rattle.weight.specs.Weight.{zero64}
@@ -53,10 +53,10 @@ words_of_mark (Err r) = record { code = code_of r; first = first_of r; second = 
 -- ---- one shot
 
 -- 11 names shot 0: a shot by itself is a batch of one
-abbrev pub words_of_shot : Answer → ShotWords
-words_of_shot (answer.Decoded n k) = record { code = 0; first = 0; second = 0; rounds = n; length = k }
-words_of_shot (answer.Stuck n d) = record { code = code_of (refusal.Stuck 0 d); first = first_of (refusal.Stuck 0 d); second = second_of (refusal.Stuck 0 d); rounds = n; length = 0 }
-words_of_shot (answer.Refused r) = record { code = code_of r; first = first_of r; second = second_of r; rounds = 0; length = 0 }
+abbrev pub words_of_shot : Result Shot Refusal → ShotWords
+words_of_shot (Ok (answer.Decoded n k)) = record { code = 0; first = 0; second = 0; rounds = n; length = k }
+words_of_shot (Ok (answer.Stuck n d)) = record { code = code_of (refusal.Stuck 0 d); first = first_of (refusal.Stuck 0 d); second = second_of (refusal.Stuck 0 d); rounds = n; length = 0 }
+words_of_shot (Err r) = record { code = code_of r; first = first_of r; second = second_of r; rounds = 0; length = 0 }
 
 -- ---- a batch
 

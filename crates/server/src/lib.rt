@@ -8,7 +8,6 @@ ghost use Rattle.rate.specs.Rate.{compared, Rates};
 ghost use Rattle.marker.specs.Answer.{Marks};
 ghost use Rattle.dem.specs.Positions.{tables};
 ghost use Rattle.decompose.specs.Call as decomposition;
-ghost use Rattle.graphlike.specs.Lent.{scratch_of};
 ghost use Rattle.edges.specs.Tables.{slices};
 ghost use Rattle.graph.specs.Outcome.{outcome, Compiles};
 ghost use Rattle.codes.specs.Limits.{max_mechanisms};
@@ -17,12 +16,16 @@ ghost use Rattle.server.specs.Lengths.{within, decode_lengths, decompose_with, d
 ghost use Rattle.server.specs.Words.{InWords, told_of, words_of_model, words_of_graph, words_of_mark, words_of_shot, words_of_batch, words_of_rate};
 
 use adjacency::Neighbor;
-use cells::{Flags, Link, Node, Stack};
+use cells::{Flags, Link, Node, Stack, Tables};
 use codes::{Checked, Refusal};
-use decoder::Answer;
+use cover::CandidateTables;
+use dem::{Model, Output};
+use edges::EdgeTables;
 use failures::ErrorRate;
+use lent_graph::Graph;
 use marking::Marking;
-use scratch::Lengths;
+use scratch::{Lengths, Scratch};
+use shot::Shot;
 use split_model::Counts;
 
 // The counts of a lent graph.
@@ -88,7 +91,6 @@ impl From<Result<usize, Refusal>> for GraphWords {
     }
 }
 
-// Long for its parameters, one a line.
 #[unsafe(no_mangle)]
 pub extern "C" fn pavrenni_compile(
     detectors: usize,
@@ -111,7 +113,7 @@ pub extern "C" fn pavrenni_compile(
 ) -> GraphWords
     ensures { InWords words_of_graph (λ a. Compiles detectors observables (outcome detectors observables mechanisms (tables probability.now detector_counts.now observable_counts.now component_counts.now component_detectors.now component_observables.now entries.now) (slices edge_u.old edge_v.old edge_weight.old edge_obs.old edge_p.old) first.old next.old) a (slices edge_u.old edge_v.old edge_weight.old edge_obs.old edge_p.old) (slices edge_u.new edge_v.new edge_weight.new edge_obs.new edge_p.new)) result }
 {
-    GraphWords::from(graph::from_model(
+    let model = Model {
         detectors,
         observables,
         mechanisms,
@@ -122,30 +124,19 @@ pub extern "C" fn pavrenni_compile(
         component_detectors,
         component_observables,
         entries,
+    };
+    let mut edges = EdgeTables {
         edge_u,
         edge_v,
         edge_weight,
         edge_obs,
+    };
+    let mut s = edges::Scratch {
         edge_p,
         first,
         next,
-    ))
-}
-
-// The scratch lengths of decomposition.
-#[repr(C)]
-#[derive(Clone, Copy)]
-pub struct DecomposeLengths {
-    pub starts: usize,
-    pub before: usize,
-    pub last_of: usize,
-    pub first_of: usize,
-    pub next_of: usize,
-    pub numbers: usize,
-    pub masks: usize,
-    pub words0: usize,
-    pub words1: usize,
-    pub earlier: usize,
+    };
+    GraphWords::from(graph::from_model(&model, &mut edges, &mut s))
 }
 
 // The scratch lengths of compiling.
@@ -183,12 +174,12 @@ pub extern "C" fn pavrenni_lengths_for(detectors: usize, edges: usize) -> Length
     scratch::least_lengths(detectors, edges)
 }
 
-fn decompose_lengths(detectors: usize, mechanisms: usize) -> DecomposeLengths
+fn decompose_lengths(detectors: usize, mechanisms: usize) -> decompose::Lengths
     requires { mechanisms ≤ max_mechanisms }
     ensures { result ≡ decompose_with detectors mechanisms }
 {
     let many = 17 * mechanisms;
-    DecomposeLengths {
+    decompose::Lengths {
         starts: many,
         before: many,
         last_of: detectors,
@@ -207,7 +198,7 @@ fn decompose_lengths(detectors: usize, mechanisms: usize) -> DecomposeLengths
 pub extern "C" fn pavrenni_decompose_lengths_for(
     detectors: usize,
     mechanisms: usize,
-) -> DecomposeLengths
+) -> decompose::Lengths
     ensures { result ≡ decompose_lengths detectors mechanisms }
 {
     if !within(detectors, mechanisms) {
@@ -306,21 +297,16 @@ pub extern "C" fn pavrenni_mark(
 ) -> MarkWords
     ensures { InWords words_of_mark (λ a. Marks (lent_by size edge_u.now edge_v.now edge_weight.now edge_obs.now) shot.now width list.now row.old marks.old wrong.old a row.new) result }
 {
-    MarkWords::from(marker::mark(
-        size.detectors,
-        size.observables,
-        size.edges,
+    let g = Graph {
+        detectors: size.detectors,
+        observables: size.observables,
+        edges: size.edges,
         edge_u,
         edge_v,
         edge_weight,
         edge_obs,
-        shot,
-        width,
-        list,
-        row,
-        marks,
-        wrong,
-    ))
+    };
+    MarkWords::from(marker::mark(&g, shot, width, list, row, marks, wrong))
 }
 
 // The answer to a shot: the rounds finished and the length of the list. Stuck is code 11 with shot 0 and the detector, and has its rounds too.
@@ -334,18 +320,18 @@ pub struct ShotWords {
     pub length: usize,
 }
 
-impl From<Answer> for ShotWords {
+impl From<Result<Shot, Refusal>> for ShotWords {
     ghost from_gives = { λ a w. w ≡ words_of_shot a };
 
-    fn from(a: Answer) -> ShotWords {
+    fn from(a: Result<Shot, Refusal>) -> ShotWords {
         let (told, rounds, length) = match a {
-            Answer::Decoded { rounds, length } => (DONE, rounds, length),
-            Answer::Stuck { rounds, detector } => (
+            Ok(Shot::Decoded { rounds, length }) => (DONE, rounds, length),
+            Ok(Shot::Stuck { rounds, detector }) => (
                 Told::from(Refusal::Stuck { shot: 0, detector }),
                 rounds,
                 0,
             ),
-            Answer::Refused(r) => (Told::from(r), 0, 0),
+            Err(r) => (Told::from(r), 0, 0),
         };
         ShotWords {
             code: told.code,
@@ -384,17 +370,17 @@ impl From<Checked> for BatchWords {
 
 // A shot decoded. Long for its parameters, one a line.
 #[unsafe(no_mangle)]
-pub extern "C" fn pavrenni_decode_shot(
+pub extern "C" fn pavrenni_decode_shot<'a>(
     row: &mut [u64],
     list: &mut [u32],
-    adj_offsets: &mut [u32],
-    adj: &mut [Neighbor],
-    tree: &mut [Node],
-    flags: &mut [Flags],
-    stacks: &mut [Stack],
-    links: &mut [Link],
-    growth: &mut [f64],
-    sat: &mut [bool],
+    adj_offsets: &'a mut [u32],
+    adj: &'a mut [Neighbor],
+    tree: &'a mut [Node],
+    flags: &'a mut [Flags],
+    stacks: &'a mut [Stack],
+    links: &'a mut [Link],
+    growth: &'a mut [f64],
+    sat: &'a mut [bool],
     size: Size,
     edge_u: &[u32],
     edge_v: &[u32],
@@ -405,27 +391,29 @@ pub extern "C" fn pavrenni_decode_shot(
 ) -> ShotWords
     ensures { InWords words_of_shot (λ a. Decodes (handed (lent_by size edge_u.now edge_v.now edge_weight.now edge_obs.now) shot.now width row.old list.old (lengths_by adj_offsets.old adj.old tree.old flags.old stacks.old links.old growth.old sat.old)) a list.new row.new) result }
 {
-    ShotWords::from(decoder::decode_shot(
-        size.detectors,
-        size.observables,
-        size.edges,
-        row,
-        list,
-        adj_offsets,
-        adj,
+    let g = Graph {
+        detectors: size.detectors,
+        observables: size.observables,
+        edges: size.edges,
+        edge_u,
+        edge_v,
+        edge_weight,
+        edge_obs,
+    };
+    let tables = Tables {
         tree,
         flags,
         stacks,
         links,
         growth,
         sat,
-        edge_u,
-        edge_v,
-        edge_weight,
-        edge_obs,
-        shot,
-        width,
-    ))
+    };
+    let mut s = Scratch {
+        adj_offsets,
+        adj,
+        tables,
+    };
+    ShotWords::from(decoder::decode_shot(&g, shot, width, row, list, &mut s))
 }
 
 // The answer of decomposition: the mechanisms, components and entries of the new model.
@@ -459,9 +447,9 @@ impl From<Result<Counts, Refusal>> for ModelWords {
     }
 }
 
-// A model decomposed. Long for its parameters, one a line.
+// A model decomposed. Long for its parameters and fields, one a line.
 #[unsafe(no_mangle)]
-pub extern "C" fn pavrenni_decompose(
+pub extern "C" fn pavrenni_decompose<'a>(
     detectors: usize,
     observables: usize,
     mechanisms: usize,
@@ -479,20 +467,20 @@ pub extern "C" fn pavrenni_decompose(
     out_component_detectors: &mut [u8],
     out_component_observables: &mut [u8],
     out_entries: &mut [u32],
-    starts: &mut [u32],
-    before: &mut [u32],
-    last_of: &mut [u32],
-    first_of: &mut [u32],
-    next_of: &mut [u32],
-    numbers: &mut [u32],
-    masks: &mut [u16],
-    words0: &mut [u64],
-    words1: &mut [u64],
-    earlier: &mut [u32],
+    starts: &'a mut [u32],
+    before: &'a mut [u32],
+    last_of: &'a mut [u32],
+    first_of: &'a mut [u32],
+    next_of: &'a mut [u32],
+    numbers: &'a mut [u32],
+    masks: &'a mut [u16],
+    words0: &'a mut [u64],
+    words1: &'a mut [u64],
+    earlier: &'a mut [u32],
 ) -> ModelWords
-    ensures { InWords words_of_model (λ a. decomposition.Decomposes (decomposition.outcome detectors observables mechanisms (tables probability.now detector_counts.now observable_counts.now component_counts.now component_detectors.now component_observables.now entries.now) (tables out_probability.old out_detector_counts.old out_observable_counts.old out_component_counts.old out_component_detectors.old out_component_observables.old out_entries.old) (scratch_of starts.old before.old last_of.old first_of.old next_of.old numbers.old masks.old words0.old words1.old earlier.old)) a (tables out_probability.old out_detector_counts.old out_observable_counts.old out_component_counts.old out_component_detectors.old out_component_observables.old out_entries.old) (tables out_probability.new out_detector_counts.new out_observable_counts.new out_component_counts.new out_component_detectors.new out_component_observables.new out_entries.new)) result }
+    ensures { InWords words_of_model (λ a. decomposition.Decomposes (decomposition.outcome detectors observables mechanisms (tables probability.now detector_counts.now observable_counts.now component_counts.now component_detectors.now component_observables.now entries.now) (tables out_probability.old out_detector_counts.old out_observable_counts.old out_component_counts.old out_component_detectors.old out_component_observables.old out_entries.old) (decomposition.lengths_of starts.old before.old last_of.old first_of.old next_of.old numbers.old masks.old words0.old words1.old earlier.old)) a (tables out_probability.old out_detector_counts.old out_observable_counts.old out_component_counts.old out_component_detectors.old out_component_observables.old out_entries.old) (tables out_probability.new out_detector_counts.new out_observable_counts.new out_component_counts.new out_component_detectors.new out_component_observables.new out_entries.new)) result }
 {
-    ModelWords::from(graphlike::decompose_graphlike(
+    let model = Model {
         detectors,
         observables,
         mechanisms,
@@ -503,39 +491,47 @@ pub extern "C" fn pavrenni_decompose(
         component_detectors,
         component_observables,
         entries,
-        out_probability,
-        out_detector_counts,
-        out_observable_counts,
-        out_component_counts,
-        out_component_detectors,
-        out_component_observables,
-        out_entries,
-        starts,
-        before,
-        last_of,
-        first_of,
-        next_of,
+    };
+    let mut out = Output {
+        probability: out_probability,
+        detector_counts: out_detector_counts,
+        observable_counts: out_observable_counts,
+        component_counts: out_component_counts,
+        component_detectors: out_component_detectors,
+        component_observables: out_component_observables,
+        entries: out_entries,
+    };
+    let candidates = CandidateTables {
         numbers,
         masks,
         words0,
         words1,
         earlier,
-    ))
+    };
+    let mut s = decompose::Scratch {
+        starts,
+        before,
+        last_of,
+        first_of,
+        next_of,
+        candidates,
+    };
+    ModelWords::from(graphlike::decompose_graphlike(&model, &mut out, &mut s))
 }
 
 // Packed shots decoded, a row each. Long for its parameters, one a line.
 #[unsafe(no_mangle)]
-pub extern "C" fn pavrenni_decode_batch(
+pub extern "C" fn pavrenni_decode_batch<'a>(
     out: &mut [u64],
     list: &mut [u32],
-    adj_offsets: &mut [u32],
-    adj: &mut [Neighbor],
-    tree: &mut [Node],
-    flags: &mut [Flags],
-    stacks: &mut [Stack],
-    links: &mut [Link],
-    growth: &mut [f64],
-    sat: &mut [bool],
+    adj_offsets: &'a mut [u32],
+    adj: &'a mut [Neighbor],
+    tree: &'a mut [Node],
+    flags: &'a mut [Flags],
+    stacks: &'a mut [Stack],
+    links: &'a mut [Link],
+    growth: &'a mut [f64],
+    sat: &'a mut [bool],
     size: Size,
     edge_u: &[u32],
     edge_v: &[u32],
@@ -547,28 +543,29 @@ pub extern "C" fn pavrenni_decode_batch(
 ) -> BatchWords
     ensures { InWords words_of_batch (λ a. batched.Decodes (batched.handed (lent_by size edge_u.now edge_v.now edge_weight.now edge_obs.now) rows.now shots width out.old (length list.old) (lengths_by adj_offsets.old adj.old tree.old flags.old stacks.old links.old growth.old sat.old)) a out.new) result }
 {
-    BatchWords::from(batch::decode_batch(
-        size.detectors,
-        size.observables,
-        size.edges,
-        out,
-        list,
-        adj_offsets,
-        adj,
+    let g = Graph {
+        detectors: size.detectors,
+        observables: size.observables,
+        edges: size.edges,
+        edge_u,
+        edge_v,
+        edge_weight,
+        edge_obs,
+    };
+    let tables = Tables {
         tree,
         flags,
         stacks,
         links,
         growth,
         sat,
-        edge_u,
-        edge_v,
-        edge_weight,
-        edge_obs,
-        rows,
-        shots,
-        width,
-    ))
+    };
+    let mut s = Scratch {
+        adj_offsets,
+        adj,
+        tables,
+    };
+    BatchWords::from(batch::decode_batch(&g, rows, shots, width, out, list, &mut s))
 }
 
 // The answer of the rate.
@@ -600,17 +597,17 @@ impl From<ErrorRate> for RateWords {
 
 // The logical error rate. Long for its parameters, one a line.
 #[unsafe(no_mangle)]
-pub extern "C" fn pavrenni_rate(
+pub extern "C" fn pavrenni_rate<'a>(
     out: &mut [u64],
     list: &mut [u32],
-    adj_offsets: &mut [u32],
-    adj: &mut [Neighbor],
-    tree: &mut [Node],
-    flags: &mut [Flags],
-    stacks: &mut [Stack],
-    links: &mut [Link],
-    growth: &mut [f64],
-    sat: &mut [bool],
+    adj_offsets: &'a mut [u32],
+    adj: &'a mut [Neighbor],
+    tree: &'a mut [Node],
+    flags: &'a mut [Flags],
+    stacks: &'a mut [Stack],
+    links: &'a mut [Link],
+    growth: &'a mut [f64],
+    sat: &'a mut [bool],
     size: Size,
     edge_u: &[u32],
     edge_v: &[u32],
@@ -625,29 +622,29 @@ pub extern "C" fn pavrenni_rate(
 ) -> RateWords
     ensures { InWords words_of_rate (λ a. Rates (compared (batched.handed (lent_by size edge_u.now edge_v.now edge_weight.now edge_obs.now) rows.now shots width out.old (length list.old) (lengths_by adj_offsets.old adj.old tree.old flags.old stacks.old links.old growth.old sat.old)) truth.now true_shots true_width) a out.new) result }
 {
-    RateWords::from(rate::logical_error_rate(
-        size.detectors,
-        size.observables,
-        size.edges,
-        out,
-        list,
-        adj_offsets,
-        adj,
+    let g = Graph {
+        detectors: size.detectors,
+        observables: size.observables,
+        edges: size.edges,
+        edge_u,
+        edge_v,
+        edge_weight,
+        edge_obs,
+    };
+    let tables = Tables {
         tree,
         flags,
         stacks,
         links,
         growth,
         sat,
-        edge_u,
-        edge_v,
-        edge_weight,
-        edge_obs,
-        rows,
-        shots,
-        width,
-        truth,
-        true_shots,
-        true_width,
+    };
+    let mut s = Scratch {
+        adj_offsets,
+        adj,
+        tables,
+    };
+    RateWords::from(rate::logical_error_rate(
+        &g, rows, shots, width, truth, true_shots, true_width, out, list, &mut s,
     ))
 }

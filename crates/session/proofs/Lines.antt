@@ -3,11 +3,10 @@ use Rattle.std.specs.Prelude.{Result, Ok, Err}
 use Prim.Native.Nat.{ℕ, ◌-◌, min}
 use native.Mathlib.Omega.{arith}
 use mathlib.Core.Path.{◌≡◌, refl, sym, ap, ◌∙◌}
-use mathlib.Core.List.{List}
-use lib.ListN.{length, length-take, length-drop}
+use mathlib.Core.List.{List, map}
+use lib.ListN.{length, length-map, length-take, length-drop}
 use Rattle.codes.specs.declared.Refusal.{Refusal}
-use Rattle.counts.specs.Rows.{column}
-use Rattle.counts.proofs.Rows.{column_length}
+use Rattle.counts.specs.declared.Row.{Row}
 use Rattle.hex_text.specs.Hex.{bytes_of}
 use Rattle.dem.specs.Tables.{written}
 use Rattle.edges.specs.Tables.{Slices}
@@ -16,7 +15,9 @@ use Rattle.frames.specs.Frames.{kind_of}
 use Rattle.frames.specs.Input.{Input, Read, next, refused, read_line}
 use Rattle.frames.specs.Counts.{counts_of, answer_of}
 use Rattle.frames.proofs.Words.{row_read, shot_read_lem}
-use Rattle.reader.specs.Columns.{Columns, columns_of, columns_at, roomy, Holds, read_by, LineRead, columns_left}
+use Rattle.reader.specs.declared.Tables.{Tables}
+use Rattle.reader.specs.Lent.{columns_in, SameTables}
+use Rattle.reader.specs.Columns.{Columns, columns_at, roomy, Holds, read_by, LineRead, columns_left}
 use Rattle.reader.proofs.Laws.{laws}
 use Rattle.replies.specs.Last.{refusal_text}
 use Rattle.session.specs.declared.Numbers.{Numbers}
@@ -39,21 +40,21 @@ pub record Same (c d : Columns) : Type 0 where
   pub truth : length d.truth ≡ length c.truth
 
 -- four slices that kept their lengths
-module _ (bs bs' : List ℕ) (rows rows' : List (List ℕ)) (es es' ws ws' : List ℕ) (e : length rows' ≡ length rows) where
-  column_same : (k : ℕ) → length (column 0 k rows') ≡ length (column 0 k rows)
-  column_same k = column_length 0 k rows' ∙ e ∙ sym (column_length 0 k rows)
+module _ (r r' : Tables) (e : SameTables r r') where
+  column_same : (f : Row → ℕ) → length (map f r'.counts.now) ≡ length (map f r.counts.now)
+  column_same f = length-map r'.counts.now f ∙ e.counts_long ∙ sym (length-map r.counts.now f)
 
-  pub same_of : length bs' ≡ length bs → length es' ≡ length es → length ws' ≡ length ws → Same (columns_of bs rows es ws) (columns_of bs' rows' es' ws')
-  same_of b l w = record {
-    bits = b;
-    detector_counts = column_same 0;
-    observable_counts = column_same 1;
-    component_counts = column_same 2;
-    component_detectors = column_same 3;
-    component_observables = column_same 4;
-    entries = l;
-    row = length-take 4 ws' ∙ ap (min 4) w ∙ sym (length-take 4 ws);
-    truth = length-drop 4 ws' ∙ ap (λ (k : ℕ). k - 4) w ∙ sym (length-drop 4 ws);
+  pub same_of : Same (columns_in r) (columns_in r')
+  same_of = record {
+    bits = e.probability_bits_long;
+    detector_counts = column_same (λ r. r.detectors);
+    observable_counts = column_same (λ r. r.observables);
+    component_counts = column_same (λ r. r.components);
+    component_detectors = column_same (λ r. r.component_detectors);
+    component_observables = column_same (λ r. r.component_observables);
+    entries = e.entries_long;
+    row = length-take 4 r'.shot.now ∙ ap (min 4) e.shot_long ∙ sym (length-take 4 r.shot.now);
+    truth = length-drop 4 r'.shot.now ∙ ap (λ (k : ℕ). k - 4) e.shot_long ∙ sym (length-drop 4 r.shot.now);
   }
 
 roomy_same : (c d : Columns) → Same c d → roomy d ≡ roomy c

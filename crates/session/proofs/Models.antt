@@ -4,12 +4,12 @@ use Prim.Native.Nat.{ℕ, ◌*◌, ◌≤◌}
 use native.Mathlib.Omega.{arith}
 use mathlib.Core.Path.{◌≡◌, refl, sym, ap, ◌∙◌, subst}
 use mathlib.Core.List.{List, map}
-use lib.ListN.{length, length-map}
+use lib.ListN.{length, take, drop, length-map}
 use lib.Seq.{take_all}
 use lib.Ieee.{Float}
 use Rattle.codes.specs.declared.Refusal.{Refusal}
-use Rattle.counts.specs.Rows.{column}
-use Rattle.counts.proofs.Rows.{column_length}
+use Rattle.counts.specs.declared.Row.{Row}
+use Rattle.counts.specs.Rows as counts
 use Rattle.bits.specs.Rows.{words}
 use Rattle.dem.specs.Tables.{written}
 use Rattle.edges.specs.Compile.{Edges, into, refused, graph_by}
@@ -19,7 +19,7 @@ use Rattle.frames.specs.declared.State.{State}
 use Rattle.frames.specs.Input.{Input, model_read}
 use Rattle.frames.specs.Counts.{counts_of}
 use Rattle.frames.proofs.FrameKinds.{held_of}
-use Rattle.reader.specs.Columns.{Columns, columns, Holds}
+use Rattle.reader.specs.Columns.{Columns, columns_of, Holds}
 use Rattle.model_graph.specs.Graph.{graph_read}
 use Rattle.model_graph.specs.Answers.{held, GraphRead, GraphBy}
 use Rattle.model_graph.proofs.Answers.{graph_by_lem}
@@ -27,7 +27,7 @@ use Rattle.replies.specs.Last.{refusal_text}
 use Rattle.session.specs.declared.Numbers.{Numbers}
 use Rattle.std.specs.declared.ops.ControlFlow.TheVariants.{Continue, Break}
 use Rattle.session.specs.Output.{Session, at_model, compiled as compiledBy}
-use Rattle.session.specs.Kept.{Told, numbers_of, slices_by, graph_left, Tells, Reads, ModelBy, ModelSome}
+use Rattle.session.specs.Kept.{Told, numbers_of, slices_by, graph_left, Tells, Reads, ReadSome, AnswersModel}
 use Rattle.session.proofs.Fronts.{again, written_fits, flat_long, Left, kept_on}
 
 abbrev edges_read : Input → Edges
@@ -120,22 +120,22 @@ module _ (s : Session) (t : Input) (c : Columns) (g : Slices) (r : Reads s t 4 (
 -- ---- the contract
 
 -- no row lies past those that are held
-pub whole_rows : (n : Numbers) (state : State) (bs : List ℕ) (rows : List (List ℕ)) (es : List ℕ) (g : Slices) (a : Result ℕ Refusal) (left : Slices)
-    → ModelSome n state bs (column 0 0 rows) (column 0 1 rows) (column 0 2 rows) (column 0 3 rows) (column 0 4 rows) es g
-    → GraphBy state bs (held 0 rows) (held 1 rows) (held 2 rows) (held 3 rows) (held 4 rows) es g a left
-    → GraphBy state bs (column 0 0 rows) (column 0 1 rows) (column 0 2 rows) (column 0 3 rows) (column 0 4 rows) es g a left
-whole_rows n state bs rows es g a left m =
-    let few : length rows ≤ 1024 = omega (arith, column_length 0 3 rows, m.read.reads.sizes.sized.component_detectors) in
-    graph_by_lem state bs _ _ _ _ _ _ _ _ _ _ es g a left (all few 0) (all few 1) (all few 2) (all few 3) (all few 4)
+pub whole_rows : (n : Numbers) (state : State) (bs : List ℕ) (rows : List Row) (es ws : List ℕ) (g : Slices) (a : Result ℕ Refusal) (left : Slices)
+    → ReadSome 4 n state (columns_of bs rows es ws) g
+    → GraphBy state bs (held (counts.detectors rows)) (held (counts.observables rows)) (held (counts.components rows)) (held (counts.component_detectors rows)) (held (counts.component_observables rows)) es g a left
+    → GraphRead state (columns_of bs rows es ws) g a left
+whole_rows n state bs rows es ws g a left m b =
+    let few : length rows ≤ 1024 = omega (arith, length-map rows (λ r. r.component_detectors), m.reads.sizes.sized.component_detectors) in
+    graph_by_lem state bs _ _ _ _ _ _ _ _ _ _ es g a left (all few (λ r. r.detectors)) (all few (λ r. r.observables)) (all few (λ r. r.components)) (all few (λ r. r.component_detectors))
+    (all few (λ r. r.component_observables)) b (take 4 ws) (drop 4 ws)
   where
-    all : length rows ≤ 1024 → (k : ℕ) → held k rows ≡ column 0 k rows
-    all few k = take_all 1024 (column 0 k rows) (omega (arith, few, column_length 0 k rows))
+    all : length rows ≤ 1024 → (f : Row → ℕ) → held (map f rows) ≡ map f rows
+    all few f = take_all 1024 (map f rows) (omega (arith, few, length-map rows f))
 
-module _ (n : Numbers) (state : State) (bs ds os cs cds cos es : List ℕ) (g : Slices) (a : Result ℕ Refusal) (left : Slices) (b : GraphBy state bs ds os cs cds cos es g a left) where
+module _ (n : Numbers) (state : State) (c : Columns) (g : Slices) (a : Result ℕ Refusal) (left : Slices) (b : GraphRead state c g a left) where
   -- the numbers of a session are those of its definition
-  at : (s : Session) (t : Input) (ws ts : List ℕ) → Reads s t 4 n state (columns bs ds os cs cds cos es ws ts) g
-      → Reads s t 4 (numbers_of s) (counts_of t) (columns bs ds os cs cds cos es ws ts) g
-  at s t ws ts r = record {
+  at : (s : Session) (t : Input) → Reads s t 4 n state c g → Reads s t 4 (numbers_of s) (counts_of t) c g
+  at s t r = record {
     numbers = refl;
     counts = refl;
     within = r.within;
@@ -148,43 +148,40 @@ module _ (n : Numbers) (state : State) (bs ds os cs cds cos es : List ℕ) (g : 
     sizes = r.sizes;
   }
 
-  graph_at : (s : Session) (t : Input) (ws ts : List ℕ) → Reads s t 4 n state (columns bs ds os cs cds cos es ws ts) g → GraphRead (counts_of t) (columns bs ds os cs cds cos es ws ts) g a left
-  graph_at s t ws ts r = rw r.counts at (b ws ts)
+  graph_at : (s : Session) (t : Input) → Reads s t 4 n state c g → GraphRead (counts_of t) c g a left
+  graph_at s t r = rw r.counts at b
 
-  pub model_few : ModelSome n state bs ds os cs cds cos es g → (k : ℕ) → a ≡ Ok k → length left.edge_u ≡ length g.edge_u → (k ≤ 1024) × (state.observables ≤ 128)
+  pub model_few : ReadSome 4 n state c g → (k : ℕ) → a ≡ Ok k → length left.edge_u ≡ length g.edge_u → (k ≤ 1024) × (state.observables ≤ 128)
   model_few m k e same =
-      let r = m.read.reads in
-      let s = m.read.session in
-      let t = m.read.input in (
-        few s t (columns bs ds os cs cds cos es m.row m.truth) g (at s t m.row m.truth r) a left (graph_at s t m.row m.truth r) k e same,
-        rw r.counts (held_of (counts_of t) r.within).observables,
-      )
+      let r = m.reads in
+      let s = m.session in
+      let t = m.input in
+      (few s t c g (at s t r) a left (graph_at s t r) k e same, rw r.counts (held_of (counts_of t) r.within).observables)
 
-  leaves : left.edge_p ≡ g.edge_p → (ws ts : List ℕ) (s : Session) (t : Input) → Reads s t 4 n state (columns bs ds os cs cds cos es ws ts) g → left ≡ graph_left 4 t g
-  leaves p ws ts s t r = left_is s t (columns bs ds os cs cds cos es ws ts) g (at s t ws ts r) a left (graph_at s t ws ts r) p
+  leaves : left.edge_p ≡ g.edge_p → (s : Session) (t : Input) → Reads s t 4 n state c g → left ≡ graph_left 4 t g
+  leaves p s t r = left_is s t c g (at s t r) a left (graph_at s t r) p
 
   pub model_on : (k w : ℕ) (was : List ℕ) → left.edge_p ≡ g.edge_p → a ≡ Ok k → length left.edge_u ≡ length g.edge_u → w ≡ k * words state.observables
-      → ModelBy n state bs ds os cs cds cos es g (Continue (record { numbers = record { state = state; edges = k; words = w; shots = n.shots; failures = n.failures }; written = 0 })) left was was
+      → AnswersModel n state c g (Continue (record { numbers = record { state = state; edges = k; words = w; shots = n.shots; failures = n.failures }; written = 0 })) left was was
   unfolding at_model
-  model_on k w was p e same h ws ts =
-      let both : (s : Session) (t : Input) → Reads s t 4 n state (columns bs ds os cs cds cos es ws ts) g
-      → Tells (at_model s t) (Continue (record { numbers = record { state = state; edges = k; words = w; shots = n.shots; failures = n.failures }; written = 0 })) was was × Left (at_model s t) (columns bs ds os cs cds cos es ws ts) left
-      = λ s t r. rw (r.numbers, r.counts) (on_by s t (columns bs ds os cs cds cos es ws ts) g (at s t ws ts r) a left (graph_at s t ws ts r) k e same w was (rw r.counts at h) (edges_read t) refl) in
+  model_on k w was p e same h =
+      let both : (s : Session) (t : Input) → Reads s t 4 n state c g
+      → Tells (at_model s t) (Continue (record { numbers = record { state = state; edges = k; words = w; shots = n.shots; failures = n.failures }; written = 0 })) was was × Left (at_model s t) c left
+      = λ s t r. rw (r.numbers, r.counts) (on_by s t c g (at s t r) a left (graph_at s t r) k e same w was (rw r.counts at h) (edges_read t) refl) in
       record {
         answer = λ s t r. (both s t r).0;
-        leaves = leaves p ws ts;
-        keeps = λ s t r. kept_on (compiledBy s t (edges_read t)) (columns bs ds os cs cds cos es ws ts) left (both s t r).1;
+        leaves = leaves p;
+        keeps = λ s t r. kept_on (compiledBy s t (edges_read t)) c left (both s t r).1;
       }
 
   pub model_refused : (y : Refusal) (was out : List ℕ) (z : Told) → left.edge_p ≡ g.edge_p → a ≡ Err y → (z ≡ Break (length (refusal_text y))) × (out ≡ written (refusal_text y) was)
-      → ModelBy n state bs ds os cs cds cos es g z left was out
+      → AnswersModel n state c g z left was out
   unfolding at_model
-  model_refused y was out z same e p ws ts =
-      let both : (s : Session) (t : Input) → Reads s t 4 n state (columns bs ds os cs cds cos es ws ts) g
-      → Tells (at_model s t) z was out × Left (at_model s t) (columns bs ds os cs cds cos es ws ts) left
-      = λ s t r. refused_by s t (columns bs ds os cs cds cos es ws ts) g (at s t ws ts r) a left (graph_at s t ws ts r) y e (edges_read t) refl was z out p.0 p.1 in
+  model_refused y was out z same e p =
+      let both : (s : Session) (t : Input) → Reads s t 4 n state c g → Tells (at_model s t) z was out × Left (at_model s t) c left
+      = λ s t r. refused_by s t c g (at s t r) a left (graph_at s t r) y e (edges_read t) refl was z out p.0 p.1 in
       record {
         answer = λ s t r. (both s t r).0;
-        leaves = leaves same ws ts;
-        keeps = λ s t r. kept_on (compiledBy s t (edges_read t)) (columns bs ds os cs cds cos es ws ts) left (both s t r).1;
+        leaves = leaves same;
+        keeps = λ s t r. kept_on (compiledBy s t (edges_read t)) c left (both s t r).1;
       }

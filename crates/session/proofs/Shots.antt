@@ -14,7 +14,9 @@ use Rattle.codes.specs.declared.Refusal.{Refusal}
 use Rattle.codes.specs.declared.Refusal.TheVariants.{Limit}
 use Rattle.bits.specs.Rows.{words}
 use Rattle.dem.specs.Tables.{written}
-use Rattle.edges.specs.Tables.{Slices, slices, flat}
+use Rattle.edges.specs.declared.EdgeTables.{EdgeTables}
+use Rattle.edges.specs.Lent.{slices_of}
+use Rattle.edges.specs.Tables.{Slices, flat}
 use Rattle.frames.specs.declared.State.{State}
 use Rattle.frames.specs.Input.{Input}
 use Rattle.frames.specs.Counts.{counts_of}
@@ -94,17 +96,18 @@ module _ (s : Session) (t : Input) (c : Columns) (g : Slices) (r : Reads s t 6 (
 
 -- ---- the shot, from the tables
 
-module _ (n : Numbers) (state : State) (ws ts u v : List ℕ) (weight : List Float) (obs : List ℕ) where
+module _ (n : Numbers) (state : State) (ws ts : List ℕ) (lent : EdgeTables) where
   -- the parts of the tables that are in use
   abbrev pub cut : ℕ → ℕ → Outcome
-  cut rows truths = shot_outcome state.detectors state.observables n.edges (mid_of 0 (n.edges - 0) u) (mid_of 0 (n.edges - 0) v) (mid_of 0 (n.edges - 0) weight) (mid_of 0 (n.words - 0) obs)
+  cut rows truths = shot_outcome state.detectors state.observables n.edges (mid_of 0 (n.edges - 0) lent.edge_u.now) (mid_of 0 (n.edges - 0) lent.edge_v.now)
+      (mid_of 0 (n.edges - 0) lent.edge_weight.now) (mid_of 0 (n.words - 0) lent.edge_obs.now)
       (mid_of 0 (rows - 0) ws) (mid_of 0 (truths - 0) ts)
 
   same_shot : (D O k : ℕ) (D' O' k' : ℕ) (a a' b b' : List ℕ) (w w' : List Float) (o o' x x' y y' : List ℕ) → D ≡ D' → O ≡ O' → k ≡ k' → a ≡ a' → b ≡ b' → w ≡ w' → o ≡ o' → x ≡ x' → y ≡ y'
       → shot_outcome D O k a b w o x y ≡ shot_outcome D' O' k' a' b' w' o' x' y'
   same_shot D O k D' O' k' a a' b b' w w' o o' x x' y y' e1 e2 e3 e4 e5 e6 e7 e8 e9 = rw (e1, e2, e3, e4, e5, e6, e7, e8, e9) refl
 
-  module _ (s : Session) (t : Input) (bs ds os cs cds cos es : List ℕ) (r : Reads s t 6 n state (columns bs ds os cs cds cos es ws ts) (slices u v weight obs [])) where
+  module _ (s : Session) (t : Input) (bs ds os cs cds cos es : List ℕ) (r : Reads s t 6 n state (columns bs ds os cs cds cos es ws ts) (slices_of lent [])) where
     row_front : ws ≡ written t.row ws
     unfolding columns_at
     row_front = ap (λ (x : Columns). x.row) r.tables
@@ -128,14 +131,14 @@ module _ (n : Numbers) (state : State) (ws ts u v : List ℕ) (weight : List Flo
         (ap (λ (m : State). m.detectors) r.counts)
         (ap (λ (m : State). m.observables) r.counts)
         edges_are
-        (front_is gr.edge_u u n.edges r.graph.u edges_are)
-        (front_is gr.edge_v v n.edges r.graph.v (edges_are ∙ sym r.graph.others))
-        (front_is gr.edge_weight weight n.edges r.graph.weight (edges_are ∙ sym r.graph.weights))
-        (front_is (flat gr.edge_obs) obs n.words r.graph.obs words_are)
+        (front_is gr.edge_u lent.edge_u.now n.edges r.graph.u edges_are)
+        (front_is gr.edge_v lent.edge_v.now n.edges r.graph.v (edges_are ∙ sym r.graph.others))
+        (front_is gr.edge_weight lent.edge_weight.now n.edges r.graph.weight (edges_are ∙ sym r.graph.weights))
+        (front_is (flat gr.edge_obs) lent.edge_obs.now n.words r.graph.obs words_are)
         (front_is t.row ws rows row_front (p ∙ ap (λ (m : State). words m.detectors) r.counts ∙ sym six.row))
         (front_is t.truth ts truths truth_front (q ∙ ap (λ (m : State). words m.observables) r.counts ∙ sym six.truth))
 
-    pub at : Reads s t 6 (numbers_of s) (counts_of t) (columns bs ds os cs cds cos es ws ts) (slices u v weight obs [])
+    pub at : Reads s t 6 (numbers_of s) (counts_of t) (columns bs ds os cs cds cos es ws ts) (slices_of lent [])
     at = record {
       numbers = refl;
       counts = refl;
@@ -151,17 +154,17 @@ module _ (n : Numbers) (state : State) (ws ts u v : List ℕ) (weight : List Flo
 
   -- what the parts ask of the tables
   pub record Fits : Type 0 where
-    pub ends : n.edges ≤ length u
-    pub others : n.edges ≤ length v
-    pub weights : n.edges ≤ length weight
-    pub rows : n.words ≤ length obs
+    pub ends : n.edges ≤ length lent.edge_u.now
+    pub others : n.edges ≤ length lent.edge_v.now
+    pub weights : n.edges ≤ length lent.edge_weight.now
+    pub rows : n.words ≤ length lent.edge_obs.now
     pub row : words state.detectors ≤ length ws
     pub truth : words state.observables ≤ length ts
     pub truths : words state.observables ≤ 2
     pub failures : n.failures ≤ n.shots
     pub shots : n.shots ≤ 4294967295
 
-  pub fits : ShotSome n state ws ts (slices u v weight obs []) → Fits
+  pub fits : ShotSome n state ws ts (slices_of lent []) → Fits
   unfolding words
   fits m =
       let x = m.model in
@@ -175,10 +178,10 @@ module _ (n : Numbers) (state : State) (ws ts u v : List ℕ) (weight : List Flo
       let d : state.detectors ≡ t.detectors = ap (λ (m : State). m.detectors) r.counts in
       let o : state.observables ≡ t.observables = ap (λ (m : State). m.observables) r.counts in
       record {
-        ends = omega (arith, e, front_fits s.graph.edge_u u r.graph.u);
-        others = omega (arith, e, r.graph.others, front_fits s.graph.edge_v v r.graph.v);
-        weights = omega (arith, e, r.graph.weights, front_fits s.graph.edge_weight weight r.graph.weight);
-        rows = omega (arith, w, front_fits (flat s.graph.edge_obs) obs r.graph.obs);
+        ends = omega (arith, e, front_fits s.graph.edge_u lent.edge_u.now r.graph.u);
+        others = omega (arith, e, r.graph.others, front_fits s.graph.edge_v lent.edge_v.now r.graph.v);
+        weights = omega (arith, e, r.graph.weights, front_fits s.graph.edge_weight lent.edge_weight.now r.graph.weight);
+        rows = omega (arith, w, front_fits (flat s.graph.edge_obs) lent.edge_obs.now r.graph.obs);
         row = omega (arith, d, held.detectors, room.row);
         truth = omega (arith, o, held.observables, room.truth);
         truths = omega (arith, o, held.observables);
@@ -189,7 +192,7 @@ module _ (n : Numbers) (state : State) (ws ts u v : List ℕ) (weight : List Flo
   -- ---- the contract
 
   pub by_full : n.shots ≡ 4294967295 → (was out : List ℕ) (z : Told) → (z ≡ Break (length (refusal_text Limit))) × (out ≡ written (refusal_text Limit) was)
-      → ShotBy n state ws ts (slices u v weight obs []) z was out
+      → ShotBy n state ws ts (slices_of lent []) z was out
   by_full e was out z p s t bs ds os cs cds cos es r =
       full s t _ _ (at s t bs ds os cs cds cos es r) (sym (ap (λ (m : Numbers). m.shots) r.numbers) ∙ e) was out z p
 
@@ -204,13 +207,13 @@ module _ (n : Numbers) (state : State) (ws ts u v : List ℕ) (weight : List Flo
   module _ (rows truths : ℕ) (p : rows ≡ words state.detectors) (q : truths ≡ words state.observables) (less : n.shots ≡ 4294967295 → ⊥) (was mid : List ℕ) where
     pub by_decoded_lem : (x : Reply) → Replied (cut rows truths) (Ok x) was mid
         → (z : Told) → z ≡ Continue (record { numbers = record { state = state; edges = n.edges; words = n.words; shots = n.shots + 1; failures = n.failures + one x.failed }; written = x.written })
-        → ShotBy n state ws ts (slices u v weight obs []) z was mid
+        → ShotBy n state ws ts (slices_of lent []) z was mid
     by_decoded_lem x a z e s t bs ds os cs cds cos es r =
         shot_on s t _ _ (at s t bs ds os cs cds cos es r) (fewer s r.numbers r.shots less) was mid x
         (rw (cut_is s t bs ds os cs cds cos es r rows truths p q) at a) z (rw (r.numbers, r.counts) at e)
 
     pub by_refused : (y : Refusal) → Replied (cut rows truths) (Err y) was mid → (z : Told) (out : List ℕ) → (z ≡ Break (length (refusal_text y))) × (out ≡ written (refusal_text y) mid)
-        → ShotBy n state ws ts (slices u v weight obs []) z was out
+        → ShotBy n state ws ts (slices_of lent []) z was out
     by_refused y a z out e s t bs ds os cs cds cos es r =
         shot_refused s t _ _ (at s t bs ds os cs cds cos es r) (fewer s r.numbers r.shots less) was mid y
         (rw (cut_is s t bs ds os cs cds cos es r rows truths p q) at a) z out e

@@ -7,7 +7,7 @@ use Rattle.hex_text.specs.Hex.{bytes_of}
 use Rattle.dem.specs.Tables.{written}
 use Rattle.steps.specs.Graph.{Graph}
 use Rattle.edges.specs.Compile.{Edges, graph_by}
-use Rattle.edges.specs.Tables.{Slices, slices, flat}
+use Rattle.edges.specs.Tables.{Slices, flat}
 use Rattle.graph.specs.Outcome.{table_left}
 use Rattle.frames.specs.Frames.{kind_of}
 use Rattle.frames.specs.declared.State.{State}
@@ -157,15 +157,6 @@ pub record AnswersModel (n : Numbers) (state : State) (c : Columns) (g : Slices)
   pub answer : (s : Session) (t : Input) → Reads s t 4 n state c g → Tells (at_model s t) r was out
   pub leaves : (s : Session) (t : Input) → Reads s t 4 n state c g → left ≡ graph_left 4 t g
   pub keeps : (s : Session) (t : Input) → Reads s t 4 n state c g → KeptOn (at_model s t) c left
-
--- whatever the words of the last shot
-abbrev pub ModelBy : Numbers → State → List ℕ → List ℕ → List ℕ → List ℕ → List ℕ → List ℕ → List ℕ → Slices → Told → Slices → List ℕ → List ℕ → Type 0
-ModelBy n state bs ds os cs cds cos es g r left was out = (ws ts : List ℕ) → AnswersModel n state (columns bs ds os cs cds cos es ws ts) g r left was out
-
-pub record ModelSome (n : Numbers) (state : State) (bs ds os cs cds cos es : List ℕ) (g : Slices) : Type 0 where
-  pub row : List ℕ
-  pub truth : List ℕ
-  pub read : ReadSome 4 n state (columns bs ds os cs cds cos es row truth) g
 
 -- 06, whatever the tables of the model
 abbrev pub ShotBy : Numbers → State → List ℕ → List ℕ → Slices → Told → List ℕ → List ℕ → Type 0

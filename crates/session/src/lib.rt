@@ -2,21 +2,22 @@
 #![tactic(auto)]
 
 ghost use Rattle.std.specs.Prelude.{◌≡◌, [], ◌+◌, ◌*◌, ◌≤◌, ◌<◌, length};
-ghost use Rattle.counts.specs.Rows.{column};
 ghost use Rattle.bits.specs.Rows.{words};
-ghost use Rattle.hex_text.specs.Hex.{bytes_of};
 ghost use Rattle.dem.specs.Tables.{written};
-ghost use Rattle.edges.specs.Tables.{slices};
-ghost use Rattle.frames.specs.Frames.{kind_of};
+ghost use Rattle.edges.specs.Lent.{slices_of, SameEdges};
+ghost use Rattle.frames.specs.Frames.{kind_byte};
 ghost use Rattle.frames.specs.Input.{at_end};
-ghost use Rattle.reader.specs.Columns.{columns_of};
+ghost use Rattle.reader.specs.Lent.{columns_in, SameTables};
 ghost use Rattle.replies.specs.Last.{refusal_text, last_text};
 ghost use Rattle.std.specs.declared.ops.ControlFlow.TheVariants.{Break, Continue};
 ghost use Rattle.session.specs.Output.{begin, one, longest_reply};
-ghost use Rattle.session.specs.Kept.{numbers_of, Kept, ReadSome, AnswersKind, ModelBy, ModelSome, ShotBy, ShotSome, Answers};
+ghost use Rattle.session.specs.Kept.{numbers_of, Kept, ReadSome, AnswersKind, AnswersModel, ShotBy, ShotSome, Answers};
 
 use codes::Refusal;
-use frames::State;
+use edges::EdgeTables;
+use frames::{Kind, State};
+use lent_graph::Graph;
+use reader::Tables;
 use shot_reply::Reply;
 use std::ops::ControlFlow;
 
@@ -78,31 +79,24 @@ fn words_of(n: usize, observables: usize) -> usize
     n * bits::words(observables)
 }
 
-// The graph of the model. Long for its parameters, one a line.
+// The graph of the model.
 fn answer_model(
     n: Numbers,
     state: State,
-    probability_bits: &[u64],
-    counts: &[[u8; 5]],
-    entries: &[u32],
-    edge_u: &mut [u32],
-    edge_v: &mut [u32],
-    edge_weight: &mut [f64],
-    edge_obs: &mut [u64],
+    read: &Tables,
+    edges: &mut EdgeTables,
     out: &mut [u8],
 ) -> Told
-    requires { (5 ≤ length out.old) × ModelSome n state probability_bits.now (column 0 0 counts.now) (column 0 1 counts.now) (column 0 2 counts.now) (column 0 3 counts.now) (column 0 4 counts.now) entries.now (slices edge_u.old edge_v.old edge_weight.old edge_obs.old []) }
-    ensures { ModelBy n state probability_bits.now (column 0 0 counts.now) (column 0 1 counts.now) (column 0 2 counts.now) (column 0 3 counts.now) (column 0 4 counts.now) entries.now (slices edge_u.old edge_v.old edge_weight.old edge_obs.old []) result (slices edge_u.new edge_v.new edge_weight.new edge_obs.new []) out.old out.new }
+    requires { (5 ≤ length out.old) × ReadSome 4 n state (columns_in read.now) (slices_of edges.old []) }
+    ensures answers { AnswersModel n state (columns_in read.now) (slices_of edges.old []) result (slices_of edges.new []) out.old out.new }
+    ensures same { SameEdges edges.old edges.new }
 {
     let compiled = model_graph::model_graph(
         state,
-        probability_bits,
-        counts,
-        entries,
-        edge_u,
-        edge_v,
-        edge_weight,
-        edge_obs,
+        read.probability_bits,
+        read.counts,
+        read.entries,
+        edges,
     );
     match compiled {
         Err(r) => refuse(r, out),
@@ -143,40 +137,33 @@ fn counted(n: Numbers, state: State, reply: Reply) -> Told
     })
 }
 
-// The lines of a shot. Long for its parameters, one a line.
+// The lines of a shot.
 fn answer_shot(
     n: Numbers,
     state: State,
     row: &[u64],
     truth: &[u64],
-    edge_u: &[u32],
-    edge_v: &[u32],
-    edge_weight: &[f64],
-    edge_obs: &[u64],
+    edges: &EdgeTables,
     out: &mut [u8],
 ) -> Told
-    requires { (longest_reply ≤ length out.old) × ShotSome n state row.now truth.now (slices edge_u.now edge_v.now edge_weight.now edge_obs.now []) }
-    ensures { ShotBy n state row.now truth.now (slices edge_u.now edge_v.now edge_weight.now edge_obs.now []) result out.old out.new }
+    requires { (longest_reply ≤ length out.old) × ShotSome n state row.now truth.now (slices_of edges.now []) }
+    ensures { ShotBy n state row.now truth.now (slices_of edges.now []) result out.old out.new }
 {
     if n.shots == MAX_SHOTS {
         return refuse(Refusal::Limit, out);
     }
-    let edges = n.edges;
-    let words = n.words;
+    let graph = Graph {
+        detectors: state.detectors,
+        observables: state.observables,
+        edges: n.edges,
+        edge_u: &edges.edge_u[0..n.edges],
+        edge_v: &edges.edge_v[0..n.edges],
+        edge_weight: &edges.edge_weight[0..n.edges],
+        edge_obs: &edges.edge_obs[0..n.words],
+    };
     let row_words = bits::words(state.detectors);
     let truth_words = bits::words(state.observables);
-    let decoded = shot_reply::shot_reply(
-        state.detectors,
-        state.observables,
-        edges,
-        &edge_u[0..edges],
-        &edge_v[0..edges],
-        &edge_weight[0..edges],
-        &edge_obs[0..words],
-        &row[0..row_words],
-        &truth[0..truth_words],
-        out,
-    );
+    let decoded = shot_reply::shot_reply(&graph, &row[0..row_words], &truth[0..truth_words], out);
     match decoded {
         Err(r) => refuse(r, out),
         Ok(reply) => counted(n, state, reply),
@@ -185,105 +172,50 @@ fn answer_shot(
 
 // ---- a line
 
-// The kind of a line, and 0 of an empty one.
-fn kind_of(line: &[u8]) -> u8
-    ensures { result ≡ kind_of (bytes_of line.now) }
-{
-    if hex_text::byte_count(line) == 0 {
-        return 0;
-    }
-    hex_text::byte_at(line, 0)
-}
-
-// A line that was read, by its kind. Long for its parameters, one a line.
-// kept: a kind is the byte that the line begins with, which the contract speaks of for any byte; an enum would be made from 4 and 6 and told back as them.
+// A line that was read, by its kind.
 fn answer_kind(
-    kind: u8,
+    kind: Kind,
     n: Numbers,
     state: State,
-    probability_bits: &[u64],
-    counts: &[[u8; 5]],
-    entries: &[u32],
-    shot: &[u64],
-    edge_u: &mut [u32],
-    edge_v: &mut [u32],
-    edge_weight: &mut [f64],
-    edge_obs: &mut [u64],
+    read: &Tables,
+    edges: &mut EdgeTables,
     out: &mut [u8],
 ) -> Told
-    requires { (longest_reply ≤ length out.old) × ReadSome kind n state (columns_of probability_bits.now counts.now entries.now shot.now) (slices edge_u.old edge_v.old edge_weight.old edge_obs.old []) }
-    ensures { AnswersKind kind n state (columns_of probability_bits.now counts.now entries.now shot.now) (slices edge_u.old edge_v.old edge_weight.old edge_obs.old []) result (slices edge_u.new edge_v.new edge_weight.new edge_obs.new []) out.old out.new }
+    requires { (longest_reply ≤ length out.old) × ReadSome (kind_byte kind) n state (columns_in read.now) (slices_of edges.old []) }
+    ensures answers { AnswersKind (kind_byte kind) n state (columns_in read.now) (slices_of edges.old []) result (slices_of edges.new []) out.old out.new }
+    ensures same { SameEdges edges.old edges.new }
 {
-    if kind == 4 {
-        return answer_model(
-            n,
-            state,
-            probability_bits,
-            counts,
-            entries,
-            edge_u,
-            edge_v,
-            edge_weight,
-            edge_obs,
-            out,
-        );
+    match kind {
+        Kind::End => answer_model(n, state, read, edges, out),
+        Kind::Truth => {
+            let row = reader::ROW_WORDS;
+            answer_shot(n, state, &read.shot[0..row], &read.shot[row..], edges, out)
+        }
+        Kind::Header | Kind::Mechanism | Kind::Component | Kind::Row => {
+            let numbers = Numbers { state, ..n };
+            ControlFlow::Continue(On {
+                numbers,
+                written: 0,
+            })
+        }
     }
-    if kind == 6 {
-        let row = reader::ROW_WORDS;
-        return answer_shot(
-            n,
-            state,
-            &shot[0..row],
-            &shot[row..],
-            edge_u,
-            edge_v,
-            edge_weight,
-            edge_obs,
-            out,
-        );
-    }
-    let numbers = Numbers { state, ..n };
-    ControlFlow::Continue(On {
-        numbers,
-        written: 0,
-    })
 }
 
-// A line of any bytes. Long for its parameters, one a line.
+// A line of any bytes.
 pub fn answer_line(
     line: &[u8],
     n: Numbers,
-    probability_bits: &mut [u64],
-    counts: &mut [[u8; 5]],
-    entries: &mut [u32],
-    shot: &mut [u64],
-    edge_u: &mut [u32],
-    edge_v: &mut [u32],
-    edge_weight: &mut [f64],
-    edge_obs: &mut [u64],
+    read: &mut Tables,
+    edges: &mut EdgeTables,
     out: &mut [u8],
 ) -> Told
-    requires { (longest_reply ≤ length out.old) × Kept n (columns_of probability_bits.old counts.old entries.old shot.old) (slices edge_u.old edge_v.old edge_weight.old edge_obs.old []) }
-    ensures { Answers line.now n (columns_of probability_bits.old counts.old entries.old shot.old) (slices edge_u.old edge_v.old edge_weight.old edge_obs.old []) result (columns_of probability_bits.new counts.new entries.new shot.new) (slices edge_u.new edge_v.new edge_weight.new edge_obs.new []) out.old out.new }
+    requires { (longest_reply ≤ length out.old) × Kept n (columns_in read.old) (slices_of edges.old []) }
+    ensures answers { Answers line.now n (columns_in read.old) (slices_of edges.old []) result (columns_in read.new) (slices_of edges.new []) out.old out.new }
+    ensures same { SameTables read.old read.new × SameEdges edges.old edges.new }
 {
-    let kind = kind_of(line);
-    let read = reader::read_line(line, n.state, probability_bits, counts, entries, shot);
-    match read {
+    match reader::read_line(line, n.state, read) {
         Err(r) => refuse(r, out),
-        Ok(next) => answer_kind(
-            kind,
-            n,
-            next,
-            probability_bits,
-            counts,
-            entries,
-            shot,
-            edge_u,
-            edge_v,
-            edge_weight,
-            edge_obs,
-            out,
-        ),
+        Ok((kind, next)) => answer_kind(kind, n, next, read, edges, out),
     }
 }
 

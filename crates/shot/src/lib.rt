@@ -1,62 +1,59 @@
 // One shot decoded over tables at rest: docs/RULES.md, "Growth" and "Peeling".
 #![tactic(auto)]
 
-ghost use Rattle.std.specs.Prelude.{◌+◌, ◌<◌, ℕ, ◌≤◌, take, length, [], ◌∷◌, List, ◌≡◌};
-ghost use Rattle.shot.specs.Begin.{GrewTo};
-ghost use Rattle.cells.specs.Tables.{at_active, at_front, at_order_edge, at_order_parent, lits, knowns, odds, hots, defects, seen, active, SameStacks, parents, exits, frees, front, order_edge, order_parent, touched, cnt, fresh};
-ghost use Rattle.forest.specs.Forest.{Down, labels};
-ghost use Rattle.walks.specs.Walks.{Tabled};
-ghost use Rattle.peeling.specs.Tables.{Grown, Lit};
-ghost use Rattle.finish.specs.Finish.{Settles, Finished};
-ghost use Rattle.growth_state.specs.Rep.{Used, Rep};
-ghost use Rattle.rest.specs.Clean.{Clean, Cleaning};
-ghost use Rattle.adjacency.specs.Pairs.{near, away};
+ghost use Rattle.std.specs.Prelude.{ℕ, ◌<◌, ◌≡◌, List, [], ◌∷◌, length};
+ghost use Rattle.cells.specs.Lent.{SameSlices};
+ghost use Rattle.cells.specs.Tables.{at_active, at_front, at_order_edge, at_order_parent, lits, parents, SameStacks};
 ghost use Rattle.steps.specs.Graph.{boundary};
-ghost use Rattle.steps.specs.Call.{list_left};
-ghost use Rattle.steps.specs.Shot.{decode, row_left};
-ghost use Rattle.adjacency.specs.Adjacent.{weighted};
-ghost use Rattle.shot.specs.Shots.{Tables, graph_in, shot_of, Left, Places, Given, decode_in};
 ghost use Rattle.steps.specs.Growth.{start};
+ghost use Rattle.steps.specs.Shot.{decode, row_left};
+ghost use Rattle.steps.specs.Call.{list_left};
+ghost use Rattle.lent_graph.specs.Graph.{whole_graph};
+ghost use Rattle.adjacency.specs.Lent.{weighted_of};
+ghost use Rattle.forest.specs.Forest.{Down};
+ghost use Rattle.growth_state.specs.Lent.{RepIn};
+ghost use Rattle.peeling.specs.Lent.{TabledIn, GrownIn, LitIn};
+ghost use Rattle.finish.specs.Lent.{SettlesIn, FinishedIn};
+ghost use Rattle.rest.specs.Lent.{AtRest, CleaningIn, Spent};
+ghost use Rattle.shot.specs.Shots.{shot_of, Given};
+ghost use Rattle.shot.specs.Lent.{Decodable, LeftIn, PlacesIn, GrewToIn, decode_on};
 ghost use Rattle.shot.specs.Blank.{is_blank};
 
-use adjacency::Neighbor;
-use cells::{Flags, Link, Node, Stack};
+use adjacency::Incidence;
+use cells::Tables;
+use lent_graph::Graph;
 
 // Peels all clusters, puts the observables of the list into out_row, and puts to rest what the shot has changed. Returns the length of the list.
 pub fn end_shot(
-    d: usize,
-    edge_u: &[u32],
-    edge_v: &[u32],
-    adj_offsets: &[u32],
-    adj: &[Neighbor],
-    tree: &mut [Node],
-    flags: &mut [Flags],
-    stacks: &mut [Stack],
-    growth: &mut [f64],
-    sat: &mut [bool],
+    g: &Graph,
+    adj: &Incidence,
+    t: &mut Tables,
     defect_count: usize,
     list: &mut [u32],
     obs_words: usize,
-    edge_obs: &[u64],
     out_row: &mut [u64],
     seen_count: usize,
 ) -> usize
-    requires tabled { Tabled d edge_u.now edge_v.now adj_offsets.now (near adj.now) (away adj.now) sat.old (frees flags.old) (front stacks.old) (active stacks.old) (order_edge stacks.old) (order_parent stacks.old) }
-    requires down { Down d (parents tree.old) }
-    requires grown { Grown d edge_u.now edge_v.now sat.old (labels d (parents tree.old)) (exits tree.old) }
-    requires lit { Lit d (defects stacks.old) defect_count (frees flags.old) (lits flags.old) list.old }
-    requires settles { Settles d edge_u.now edge_v.now sat.old (labels d (parents tree.old)) (lits flags.old) obs_words edge_obs.now out_row.old (seen stacks.old) seen_count }
-    requires cleaning { Cleaning d edge_u.now edge_v.now adj_offsets.now (near adj.now) (away adj.now) (seen stacks.old) seen_count }
-    requires used { Used d edge_u.now edge_v.now (take seen_count (seen stacks.old)) (lits flags.old) growth.old sat.old (knowns flags.old) (parents tree.old) (odds flags.old) (exits tree.old) (hots flags.old) (frees flags.old) }
-    ensures finished { Finished d edge_u.now edge_v.now sat.old (labels d (parents tree.old)) (lits flags.old) obs_words edge_obs.now out_row.old list.old result (frees flags.new) (lits flags.new) out_row.new list.new }
-    ensures clean { Clean d (length edge_u.now) (lits flags.new) growth.new sat.new (knowns flags.new) (parents tree.new) (odds flags.new) (exits tree.new) (hots flags.new) (frees flags.new) }
-    ensures same_stacks { SameStacks (at_active ∷ at_front ∷ at_order_edge ∷ at_order_parent ∷ []) stacks.old stacks.new }
+    requires tabled { TabledIn g.now adj.now t.old.sat.now t.old.flags.now t.old.stacks.now }
+    requires down { Down g.now.detectors (parents t.old.tree.now) }
+    requires grown { GrownIn g.now t.old.sat.now t.old.tree.now }
+    requires lit { LitIn g.now t.old.stacks.now defect_count t.old.flags.now list.old }
+    requires settles { SettlesIn g.now t.old.sat.now t.old.tree.now t.old.flags.now obs_words out_row.old t.old.stacks.now seen_count }
+    requires cleaning { CleaningIn g.now adj.now t.old.stacks.now seen_count }
+    requires used { Spent g.now t.old seen_count }
+    ensures finished { FinishedIn g.now t.old.sat.now t.old.tree.now t.old.flags.now obs_words out_row.old list.old result t.new.flags.now out_row.new list.new }
+    ensures clean { AtRest g.now t.new }
+    ensures same_stacks { SameStacks (at_active ∷ at_front ∷ at_order_edge ∷ at_order_parent ∷ []) t.old.stacks.now t.new.stacks.now }
+    ensures same_links { t.new.links.now ≡ t.old.links.now }
+    ensures same { SameSlices t.old t.new }
 {
+    let tree = &mut *t.tree;
+    let flags = &mut *t.flags;
+    let stacks = &mut *t.stacks;
+    let growth = &mut *t.growth;
+    let sat = &mut *t.sat;
     let r = finish::finish(
-        d,
-        edge_u,
-        edge_v,
-        adj_offsets,
+        g,
         adj,
         tree,
         flags,
@@ -65,23 +62,10 @@ pub fn end_shot(
         defect_count,
         list,
         obs_words,
-        edge_obs,
         out_row,
         seen_count,
     );
-    rest::clean(
-        d,
-        edge_u,
-        edge_v,
-        adj_offsets,
-        adj,
-        tree,
-        flags,
-        stacks,
-        growth,
-        sat,
-        seen_count,
-    );
+    rest::clean(g, adj, tree, flags, stacks, growth, sat, seen_count);
     r
 }
 
@@ -94,140 +78,66 @@ pub enum Shot {
 
 // Stuck, with the tables put to rest: n detectors are seen. A list and a row are left as they were.
 pub fn stuck_shot(
-    detectors: usize,
-    observables: usize,
-    edge_u: &[u32],
-    edge_v: &[u32],
-    edge_weight: &[f64],
-    edge_obs: &[u64],
-    adj_offsets: &[u32],
-    adj: &[Neighbor],
-    tree: &mut [Node],
-    flags: &mut [Flags],
-    stacks: &[Stack],
-    growth: &mut [f64],
-    sat: &mut [bool],
+    g: &Graph,
+    adj: &Incidence,
+    t: &mut Tables,
     n: usize,
     detector: u32,
     rounds: u32,
 ) -> Shot
-    requires tables { Tables detectors observables edge_u.now edge_v.now edge_weight.now edge_obs.now adj_offsets.now (near adj.now) (away adj.now) }
-    requires grew_to { GrewTo (weighted detectors edge_u.now edge_v.now edge_weight.now) (lits flags.old) detector rounds growth.old sat.old (parents tree.old) (odds flags.old) (exits tree.old) (knowns flags.old) (seen stacks.now) n (hots flags.old) (frees flags.old) }
+    requires tables { Decodable g.now adj.now }
+    requires grew_to { GrewToIn (weighted_of g.now) t.old detector rounds n }
     requires fact { detector ≡ boundary → ⊥ }
-    ensures answers { result ≡ shot_of (decode (graph_in detectors observables edge_u.now edge_v.now edge_weight.now edge_obs.now) (lits flags.old)) }
-    ensures lists { (was : List ℕ) → was ≡ list_left was (decode (graph_in detectors observables edge_u.now edge_v.now edge_weight.now edge_obs.now) (lits flags.old)) }
-    ensures rows { (was : List ℕ) → was ≡ row_left (graph_in detectors observables edge_u.now edge_v.now edge_weight.now edge_obs.now) was (decode (graph_in detectors observables edge_u.now edge_v.now edge_weight.now edge_obs.now) (lits flags.old)) }
-    ensures rests { Clean detectors (length edge_u.now) (lits flags.new) growth.new sat.new (knowns flags.new) (parents tree.new) (odds flags.new) (exits tree.new) (hots flags.new) (frees flags.new) }
+    ensures answers { result ≡ shot_of (decode (whole_graph g.now) (lits t.old.flags.now)) }
+    ensures lists { (was : List ℕ) → was ≡ list_left was (decode (whole_graph g.now) (lits t.old.flags.now)) }
+    ensures rows { (was : List ℕ) → was ≡ row_left (whole_graph g.now) was (decode (whole_graph g.now) (lits t.old.flags.now)) }
+    ensures rests { AtRest g.now t.new }
+    ensures same_rows { (t.new.stacks.now ≡ t.old.stacks.now) × (t.new.links.now ≡ t.old.links.now) }
+    ensures same { SameSlices t.old t.new }
 {
-    rest::clean(
-        detectors,
-        edge_u,
-        edge_v,
-        adj_offsets,
-        adj,
-        tree,
-        flags,
-        stacks,
-        growth,
-        sat,
-        n,
-    );
+    let tree = &mut *t.tree;
+    let flags = &mut *t.flags;
+    let stacks = &mut *t.stacks;
+    let growth = &mut *t.growth;
+    let sat = &mut *t.sat;
+    rest::clean(g, adj, tree, flags, stacks, growth, sat, n);
     Shot::Stuck { rounds, detector }
 }
 
-// Rounds until no cluster is active or one is stuck, from the l lit detectors, and the answer. The tables are put to rest. Long for its parameters, one a line; it is one loop between a round and the two ends.
+// Rounds until no cluster is active or one is stuck, from the l lit detectors, and the answer. The tables are put to rest. It is one loop between a round and the two ends.
 pub fn grow_and_answer(
-    detectors: usize,
-    observables: usize,
-    edge_u: &[u32],
-    edge_v: &[u32],
-    edge_weight: &[f64],
-    edge_obs: &[u64],
-    adj_offsets: &[u32],
-    adj: &[Neighbor],
+    g: &Graph,
+    adj: &Incidence,
     row: &mut [u64],
     list: &mut [u32],
     l: usize,
-    tree: &mut [Node],
-    flags: &mut [Flags],
-    stacks: &mut [Stack],
-    links: &mut [Link],
-    growth: &mut [f64],
-    sat: &mut [bool],
+    t: &mut Tables,
 ) -> Shot
-    requires tables { Tables detectors observables edge_u.now edge_v.now edge_weight.now edge_obs.now adj_offsets.now (near adj.now) (away adj.now) }
-    requires left { Left detectors observables (lits flags.old) row.old list.old (defects stacks.old) l (active stacks.old) (front stacks.old) (order_edge stacks.old) (order_parent stacks.old) }
-    requires edge_u_in_bounds { (length edge_u.now < length (touched links.old)) × (length edge_u.now < length (cnt links.old)) × (length edge_u.now ≤ length (fresh links.old)) }
-    requires rep { Rep (weighted detectors edge_u.now edge_v.now edge_weight.now) (lits flags.old) (start (weighted detectors edge_u.now edge_v.now edge_weight.now) (lits flags.old)) growth.old sat.old (parents tree.old) (active stacks.old) l (odds flags.old) (exits tree.old) (knowns flags.old) (seen stacks.old) l (hots flags.old) (frees flags.old) }
-    ensures answers { result ≡ shot_of (decode (graph_in detectors observables edge_u.now edge_v.now edge_weight.now edge_obs.now) (lits flags.old)) }
-    ensures lists { list.new ≡ list_left list.old (decode (graph_in detectors observables edge_u.now edge_v.now edge_weight.now edge_obs.now) (lits flags.old)) }
-    ensures rows { row.new ≡ row_left (graph_in detectors observables edge_u.now edge_v.now edge_weight.now edge_obs.now) row.old (decode (graph_in detectors observables edge_u.now edge_v.now edge_weight.now edge_obs.now) (lits flags.old)) }
-    ensures rests { Clean detectors (length edge_u.now) (lits flags.new) growth.new sat.new (knowns flags.new) (parents tree.new) (odds flags.new) (exits tree.new) (hots flags.new) (frees flags.new) }
+    requires tables { Decodable g.now adj.now }
+    requires left { LeftIn g.now t.old row.old list.old l }
+    requires edge_u_in_bounds { length g.now.edge_u.now < length t.old.links.now }
+    requires rep { RepIn (weighted_of g.now) (start (weighted_of g.now) (lits t.old.flags.now)) t.old l l }
+    ensures answers { result ≡ shot_of (decode (whole_graph g.now) (lits t.old.flags.now)) }
+    ensures lists { list.new ≡ list_left list.old (decode (whole_graph g.now) (lits t.old.flags.now)) }
+    ensures rows { row.new ≡ row_left (whole_graph g.now) row.old (decode (whole_graph g.now) (lits t.old.flags.now)) }
+    ensures rests { AtRest g.now t.new }
+    ensures same { SameSlices t.old t.new }
 {
     let mut n = l;
     let mut a = l;
     let mut rounds = 0;
-    // kept: it ends when growth does, which no count tells
+    // kept: it ends when no cluster is active, after at most as many rounds as edges; a `for` to that bound would have to be left by the same test
     while 0 < a {
-        let s = growth_round::round(
-            detectors,
-            edge_u,
-            edge_v,
-            edge_weight,
-            adj_offsets,
-            adj,
-            tree,
-            flags,
-            stacks,
-            links,
-            growth,
-            sat,
-            n,
-            a,
-        );
+        let s = growth_round::round(g, adj, t, n, a);
         n = s.seen;
         a = s.active;
         if let Some(detector) = s.stuck {
-            return stuck_shot(
-                detectors,
-                observables,
-                edge_u,
-                edge_v,
-                edge_weight,
-                edge_obs,
-                adj_offsets,
-                adj,
-                tree,
-                flags,
-                stacks,
-                growth,
-                sat,
-                n,
-                detector,
-                rounds,
-            );
+            return stuck_shot(g, adj, t, n, detector, rounds);
         }
         rounds += 1;
     }
-    let w = bits::words(observables);
-    let length = end_shot(
-        detectors,
-        edge_u,
-        edge_v,
-        adj_offsets,
-        adj,
-        tree,
-        flags,
-        stacks,
-        growth,
-        sat,
-        l,
-        list,
-        w,
-        edge_obs,
-        row,
-        n,
-    );
+    let w = bits::words(g.observables);
+    let length = end_shot(g, adj, t, l, list, w, row, n);
     Shot::Decoded { rounds, length }
 }
 
@@ -240,58 +150,32 @@ pub fn is_blank(row: &[u64]) -> bool
 
 // Decodes the shot over tables at rest and leaves them at rest. Peeling has its marks in the column `free`, its stack in `front` and its vertices in `active`.
 pub fn decode_clean(
-    detectors: usize,
-    observables: usize,
-    edge_u: &[u32],
-    edge_v: &[u32],
-    edge_weight: &[f64],
-    edge_obs: &[u64],
-    adj_offsets: &[u32],
-    adj: &[Neighbor],
+    g: &Graph,
+    adj: &Incidence,
     shot: &[u64],
     row: &mut [u64],
     list: &mut [u32],
-    tree: &mut [Node],
-    flags: &mut [Flags],
-    stacks: &mut [Stack],
-    links: &mut [Link],
-    growth: &mut [f64],
-    sat: &mut [bool],
+    t: &mut Tables,
 ) -> Shot
-    requires tables { Tables detectors observables edge_u.now edge_v.now edge_weight.now edge_obs.now adj_offsets.now (near adj.now) (away adj.now) }
-    requires given { Given detectors observables shot.now row.old list.old }
-    requires places { Places detectors (length edge_u.now) (defects stacks.old) (seen stacks.old) (active stacks.old) (front stacks.old) (touched links.old) (cnt links.old) (fresh links.old) (order_edge stacks.old) (order_parent stacks.old) }
-    requires clean { Clean detectors (length edge_u.now) (lits flags.old) growth.old sat.old (knowns flags.old) (parents tree.old) (odds flags.old) (exits tree.old) (hots flags.old) (frees flags.old) }
-    ensures answers { result ≡ shot_of (decode_in detectors observables edge_u.now edge_v.now edge_weight.now edge_obs.now shot.now) }
-    ensures lists { list.new ≡ list_left list.old (decode_in detectors observables edge_u.now edge_v.now edge_weight.now edge_obs.now shot.now) }
-    ensures rows { row.new ≡ row_left (graph_in detectors observables edge_u.now edge_v.now edge_weight.now edge_obs.now) row.old (decode_in detectors observables edge_u.now edge_v.now edge_weight.now edge_obs.now shot.now) }
-    ensures rests { Clean detectors (length edge_u.now) (lits flags.new) growth.new sat.new (knowns flags.new) (parents tree.new) (odds flags.new) (exits tree.new) (hots flags.new) (frees flags.new) }
+    requires tables { Decodable g.now adj.now }
+    requires given { Given g.now.detectors g.now.observables shot.now row.old list.old }
+    requires places { PlacesIn g.now t.old }
+    requires clean { AtRest g.now t.old }
+    ensures answers { result ≡ shot_of (decode_on g.now shot.now) }
+    ensures lists { list.new ≡ list_left list.old (decode_on g.now shot.now) }
+    ensures rows { row.new ≡ row_left (whole_graph g.now) row.old (decode_on g.now shot.now) }
+    ensures rests { AtRest g.now t.new }
+    ensures same { SameSlices t.old t.new }
 {
-    let l = bits::list_set_bits(shot, detectors, stacks);
+    let flags = &mut *t.flags;
+    let stacks = &mut *t.stacks;
+    let l = bits::list_set_bits(shot, g.detectors, stacks);
     if l == 0 {
         return Shot::Decoded {
             rounds: 0,
             length: 0,
         };
     }
-    lit::light(detectors, flags, stacks, l);
-    grow_and_answer(
-        detectors,
-        observables,
-        edge_u,
-        edge_v,
-        edge_weight,
-        edge_obs,
-        adj_offsets,
-        adj,
-        row,
-        list,
-        l,
-        tree,
-        flags,
-        stacks,
-        links,
-        growth,
-        sat,
-    )
+    lit::light(g.detectors, flags, stacks, l);
+    grow_and_answer(g, adj, row, list, l, t)
 }

@@ -8,7 +8,7 @@ use Rattle.packed.specs.Packed.{check_packed}
 use Rattle.steps.specs.Graph.{Graph}
 use Rattle.steps.specs.Shot.{Decoded, impossible, corrected, row_after}
 use Rattle.scratch.specs.Scratch.{lengths_of}
-use Rattle.lent_graph.specs.Call.{lent_of}
+use Rattle.lent_graph.specs.Call.{Lent, lent_of}
 use Rattle.replies.specs.Replies.{line_of, row_reply, list_reply}
 use Rattle.decoder.specs.Answer.{Handed, handed, graph_of_call, checks, decoded}
 
@@ -43,9 +43,8 @@ only_then (Ok tt) x = x
 -- ---- the call
 
 -- what the decoder is handed: the shot by its width D, and scratch for 256 detectors and 1,024 edges
-abbrev pub handed_for : ℕ → ℕ → ℕ → List ℕ → List ℕ → List Float → List ℕ → List ℕ → List ℕ → List ℕ → Handed
-handed_for D O n u v weight obs shot row list =
-    handed (lent_of D O n u v weight obs) shot D row list (lengths_of 257 2048 256 256 256 1025 1024 1024)
+abbrev pub handed_for : Lent → List ℕ → List ℕ → List ℕ → Handed
+handed_for l shot row list = handed l shot l.detectors row list (lengths_of 257 2048 256 256 256 1025 1024 1024)
 
 -- its checks, then the steps
 unfoldable pub decoded_shot : Handed → List ℕ → Outcome
@@ -57,4 +56,4 @@ unfoldable pub shot_outcome : ℕ → ℕ → ℕ → List ℕ → List ℕ → 
 unfolding check_packed decoded_shot words
 shot_outcome D O n u v weight obs shot truth =
     only_then (and_then (check_packed shot 1 D) (check_packed truth 1 O))
-    (decoded_shot (handed_for D O n u v weight obs shot (replicate (words O) 0) (replicate 256 0)) truth)
+    (decoded_shot (handed_for (lent_of D O n u v weight obs) shot (replicate (words O) 0) (replicate 256 0)) truth)

@@ -3,13 +3,18 @@
 
 ghost use Rattle.std.specs.Prelude.{◌≡◌, ◌+◌, ◌*◌, ◌≤◌, length};
 ghost use Rattle.dem.specs.Tables.{written};
+ghost use Rattle.lent_graph.specs.Graph.{lent};
 ghost use Rattle.decoder.specs.Answer.{Decodes};
-ghost use Rattle.shot_reply.specs.Outcome.{told, shot_text, differs, handed_for, decoded_shot, shot_outcome};
+ghost use Rattle.shot_reply.specs.Lent.{outcome_on};
+ghost use Rattle.shot_reply.specs.Outcome.{told, shot_text, differs, handed_for, decoded_shot};
 ghost use Rattle.shot_reply.specs.Replied.{Replied};
 
 use adjacency::Neighbor;
+use cells::Tables;
 use codes::Refusal;
-use decoder::Answer;
+use lent_graph::Graph;
+use scratch::Scratch;
+use shot::Shot;
 
 // How many bytes were written, and whether an observable differs from the true one.
 #[derive(Clone, Copy)]
@@ -26,20 +31,9 @@ fn differs(row: &[u64], truth: &[u64]) -> bool
     row != truth
 }
 
-// The shot decoded over scratch of its own, for at most 256 detectors and 1,024 edges. Long for its parameters, one a line.
-fn decode(
-    detectors: usize,
-    observables: usize,
-    edges: usize,
-    edge_u: &[u32],
-    edge_v: &[u32],
-    edge_weight: &[f64],
-    edge_obs: &[u64],
-    shot: &[u64],
-    row: &mut [u64],
-    list: &mut [u32],
-) -> Answer
-    ensures { Decodes (handed_for detectors observables edges edge_u.now edge_v.now edge_weight.now edge_obs.now shot.now row.old list.old) result list.new row.new }
+// The shot decoded over scratch of its own, for at most 256 detectors and 1,024 edges.
+fn decode(g: &Graph, shot: &[u64], row: &mut [u64], list: &mut [u32]) -> Result<Shot, Refusal>
+    ensures { Decodes (handed_for (lent g.now) shot.now row.old list.old) result list.new row.new }
 {
     let mut adj_offsets = [0u32; 257];
     let mut adj = [Neighbor { edge: 0, other: 0 }; 2048];
@@ -49,27 +43,20 @@ fn decode(
     let mut links = [cells::LINK; 1025];
     let mut growth = [0.0f64; 1024];
     let mut sat = [false; 1024];
-    decoder::decode_shot(
-        detectors,
-        observables,
-        edges,
-        row,
-        list,
-        &mut adj_offsets,
-        &mut adj,
-        &mut tree,
-        &mut flags,
-        &mut stacks,
-        &mut links,
-        &mut growth,
-        &mut sat,
-        edge_u,
-        edge_v,
-        edge_weight,
-        edge_obs,
-        shot,
-        detectors,
-    )
+    let tables = Tables {
+        tree: &mut tree,
+        flags: &mut flags,
+        stacks: &mut stacks,
+        links: &mut links,
+        growth: &mut growth,
+        sat: &mut sat,
+    };
+    let mut s = Scratch {
+        adj_offsets: &mut adj_offsets,
+        adj: &mut adj,
+        tables,
+    };
+    decoder::decode_shot(g, shot, g.detectors, row, list, &mut s)
 }
 
 // 85 and 86, at the front of a slice; the answer is their length.
@@ -91,15 +78,9 @@ fn tell(row: &[u64], list: &[u32], truth: &[u64], out: &mut [u8]) -> Reply
     Reply { written, failed }
 }
 
-// The shot decoded into a row and a list, and told. Long for its parameters, one a line.
+// The shot decoded into a row and a list, and told.
 fn decode_told(
-    detectors: usize,
-    observables: usize,
-    edges: usize,
-    edge_u: &[u32],
-    edge_v: &[u32],
-    edge_weight: &[f64],
-    edge_obs: &[u64],
+    g: &Graph,
     shot: &[u64],
     truth: &[u64],
     row: &mut [u64],
@@ -107,63 +88,24 @@ fn decode_told(
     out: &mut [u8],
 ) -> Result<Reply, Refusal>
     requires { (length row.old ≡ length truth.now) × (10 + 16 * length row.old + 4 * length list.old ≤ length out.old) }
-    ensures { Replied (decoded_shot (handed_for detectors observables edges edge_u.now edge_v.now edge_weight.now edge_obs.now shot.now row.old list.old) truth.now) result out.old out.new }
+    ensures { Replied (decoded_shot (handed_for (lent g.now) shot.now row.old list.old) truth.now) result out.old out.new }
 {
-    let answer = decode(
-        detectors,
-        observables,
-        edges,
-        edge_u,
-        edge_v,
-        edge_weight,
-        edge_obs,
-        shot,
-        row,
-        list,
-    );
-    match answer {
-        Answer::Refused(r) => Err(r),
-        Answer::Stuck {
-            rounds: _,
-            detector,
-        } => Err(Refusal::Stuck { shot: 0, detector }),
-        Answer::Decoded { rounds: _, length } => Ok(tell(row, &list[0..length], truth, out)),
+    let found = decode(g, shot, row, list)?;
+    match found {
+        Shot::Stuck { detector, .. } => Err(Refusal::Stuck { shot: 0, detector }),
+        Shot::Decoded { length, .. } => Ok(tell(row, &list[0..length], truth, out)),
     }
 }
 
-// The packing of the row, then of the true observables, then the shot. Long for its parameters, one a line.
-pub fn shot_reply(
-    detectors: usize,
-    observables: usize,
-    edges: usize,
-    edge_u: &[u32],
-    edge_v: &[u32],
-    edge_weight: &[f64],
-    edge_obs: &[u64],
-    shot: &[u64],
-    truth: &[u64],
-    out: &mut [u8],
-) -> Result<Reply, Refusal>
+// The packing of the row, then of the true observables, then the shot.
+pub fn shot_reply(g: &Graph, shot: &[u64], truth: &[u64], out: &mut [u8]) -> Result<Reply, Refusal>
     requires { (length truth.now ≤ 2) × (1066 ≤ length out.old) }
-    ensures { Replied (shot_outcome detectors observables edges edge_u.now edge_v.now edge_weight.now edge_obs.now shot.now truth.now) result out.old out.new }
+    ensures { Replied (outcome_on g.now shot.now truth.now) result out.old out.new }
 {
-    packed::try_from_shot_major(shot, 1, detectors)?;
-    packed::try_from_shot_major(truth, 1, observables)?;
+    packed::try_from_shot_major(shot, 1, g.detectors)?;
+    packed::try_from_shot_major(truth, 1, g.observables)?;
     let mut row = [0u64; 2];
     let mut list = [0u32; 256];
     let words = truth.len();
-    decode_told(
-        detectors,
-        observables,
-        edges,
-        edge_u,
-        edge_v,
-        edge_weight,
-        edge_obs,
-        shot,
-        truth,
-        &mut row[0..words],
-        &mut list,
-        out,
-    )
+    decode_told(g, shot, truth, &mut row[0..words], &mut list, out)
 }

@@ -8,10 +8,13 @@ use mathlib.Core.List.{List, []}
 use mathlib.Core.Bool.{Bool, true, false, cond}
 use lib.ListN.{length, get_or, length-append, length-map, get_or-append, get_or-map}
 use lib.Dec.{leb}
-use lib.Ieee.{Float, nan}
+use lib.Ieee.{nan}
 use borrow.Author.Tests.{le-leb, lt-leb}
 use Rattle.lists.proofs.Members.{get_d_any}
 use Rattle.codes.specs.declared.Refusal.{Refusal}
+use Rattle.cover.specs.declared.Index.{Index}
+use Rattle.cover.specs.declared.CandidateTables.{CandidateTables}
+use Rattle.cover.specs.Lent.{SameCandidates}
 use Rattle.dem.specs.declared.Place.{Place}
 use Rattle.dem.specs.Model.{Symptom, ErrorMechanism, lists_fit}
 use Rattle.dem.specs.Tables.{Tables, model_of, entries_in, tables_hold}
@@ -23,8 +26,11 @@ use Rattle.dem.proofs.Positions.{reached_of, inside_of, model_next, first_from, 
 use Rattle.dem.proofs.Laws.{at, reached}
 use Rattle.kept.proofs.Kept.{many_detectors, its_components}
 use Rattle.suggested.specs.declared.Size.{Size}
-use Rattle.suggested.specs.Held.{places_of, size_of, Holds, Roomy}
-use Rattle.splits.specs.Ready.{Large, Ready, Front, After}
+use Rattle.suggested.specs.declared.Mechanisms.{Mechanisms}
+use Rattle.suggested.specs.Held.{places_of, size_of}
+use Rattle.suggested.specs.Lent.{SameMechanisms, HoldsBy, RoomyBy}
+use Rattle.splits.specs.Ready.{Large, Front}
+use Rattle.splits.specs.Lent.{ReadyBy, AfterBy}
 use Rattle.splits.proofs.Ways.{few_components}
 use Rattle.split_model.specs.Begun.{symptoms_of}
 use Rattle.split_model.proofs.Grows.{one_mechanism, stays}
@@ -33,17 +39,16 @@ use Rattle.split_model.specs.Laws.{Grows}
 nothing : ErrorMechanism
 nothing = record { probability = nan; symptom = none_such; components = [] }
 
-pub room_here : (n i base : ℕ) (starts counts others : List ℕ) (ps : List Float) (before : List ℕ) {size room : Size} {starts' counts' others' : List ℕ} {ps' : List Float} {before' : List ℕ}
-    → i < n → size.mechanisms ≤ base + 16 * i → base + 16 * n ≤ length starts → base + 16 * n ≤ length before
-    → room.mechanisms ≤ length counts → room.mechanisms ≤ length others → room.mechanisms ≤ length ps
-    → length starts' ≡ length starts → length counts' ≡ length counts → length others' ≡ length others → length ps' ≡ length ps → length before' ≡ length before
-    → Roomy 16 size room starts' counts' others' ps' before'
-room_here n i base starts counts others ps before l few hs hb hc ho hp es ec eo ep eb = record {
-  starts_hold = omega arith;
-  before_hold = omega arith;
-  counts_hold = omega arith;
-  others_hold = omega arith;
-  probability_hold = omega arith;
+pub room_here : (n i base : ℕ) {size room : Size} (lent lent' : Mechanisms) → i < n → size.mechanisms ≤ base + 16 * i
+    → base + 16 * n ≤ length lent.starts.now → base + 16 * n ≤ length lent.before.now
+    → room.mechanisms ≤ length lent.detector_counts.now → room.mechanisms ≤ length lent.observable_counts.now → room.mechanisms ≤ length lent.probability.now
+    → SameMechanisms lent lent' → RoomyBy 16 size room lent'
+room_here n i base lent lent' l few hs hb hc ho hp same = record {
+  starts_hold = omega (arith, same);
+  before_hold = omega (arith, same);
+  counts_hold = omega (arith, same);
+  others_hold = omega (arith, same);
+  probability_hold = omega (arith, same);
 }
 
 -- ---- mechanism i of the tables
@@ -76,18 +81,17 @@ module _ {n i : ℕ} (t : Tables) (hold : tables_hold n t ≡ true) (l : i < n) 
   pub few_here : {D : ℕ} → Large D (head_of i t) (place_of i t) t.component_detectors t.component_observables t.entries → length (here i t).components ≤ 16
   few_here k = omega (arith, its_components i t next_reached, few_components k)
 
--- the scratch tables may hold anything
-pub ready_same : {ks : List Symptom} {n : ℕ} {first next a b c d e a' b' c' d' e' : List ℕ} → Ready ks n first next a b c d e
-    → length a' ≡ length a → length b' ≡ length b → length c' ≡ length c → length d' ≡ length d → length e' ≡ length e → Ready ks n first next a' b' c' d' e'
-ready_same r p q s t u = record {
+-- the candidates' tables may hold anything
+pub ready_same : {ks : List Symptom} (x : Index) (c c' : CandidateTables) → ReadyBy ks x c → SameCandidates c c' → ReadyBy ks x c'
+ready_same x c c' r same = record {
   counted = r.counted;
   chains = r.chains;
   linked = r.linked;
-  numbers_hold = omega (arith, r.numbers_hold, p);
-  masks_hold = omega (arith, r.masks_hold, q);
-  words0_hold = omega (arith, r.words0_hold, s);
-  words1_hold = omega (arith, r.words1_hold, t);
-  earlier_hold = omega (arith, r.earlier_hold, u);
+  numbers_hold = omega (arith, r.numbers_hold, same.numbers_long);
+  masks_hold = omega (arith, r.masks_hold, same.masks_long);
+  words0_hold = omega (arith, r.words0_hold, same.words0_long);
+  words1_hold = omega (arith, r.words1_hold, same.words1_long);
+  earlier_hold = omega (arith, r.earlier_hold, same.earlier_long);
 }
 
 -- ---- the first mechanisms keep their lists
@@ -120,16 +124,15 @@ abbrev pub kept_lists : ℕ → Tables → List Symptom
 kept_lists n t = symptoms_of (kept_of (model_of n t))
 
 -- what is left to do from it gives the whole
-pub record Going (n : ℕ) (t was : Tables) (room : Size) (base i : ℕ) (size : Size) (starts counts others : List ℕ) (ps : List Float) (last before : List ℕ) : Type 0 where
+pub record Going (n : ℕ) (t was : Tables) (room : Size) (base i : ℕ) (size : Size) (lent : Mechanisms) : Type 0 where
   pub model : List ErrorMechanism
-  pub holds : Holds model was size t.entries starts counts others ps last before
+  pub holds : HoldsBy model was size t.entries lent
   pub front : Front (kept_lists n t) model
   pub few : size.mechanisms ≤ base + 16 * i
   pub left : split_all (places_of room) (kept_lists n t) i (model_of (n - i) (tables_from i t)) (into model) ≡ decompose (places_of room) (model_of n t)
 
 module _ {n : ℕ} (t : Tables) {was : Tables} {room : Size} where
-  pub going_first : {size : Size} {starts counts others : List ℕ} {ps : List Float} {last before : List ℕ}
-      → Holds (kept_of (model_of n t)) was size t.entries starts counts others ps last before → Going n t was room size.mechanisms 0 size starts counts others ps last before
+  pub going_first : {size : Size} {lent : Mechanisms} → HoldsBy (kept_of (model_of n t)) was size t.entries lent → Going n t was room size.mechanisms 0 size lent
   unfolding decompose
   going_first h = record {
     model = kept_of (model_of n t);
@@ -139,7 +142,7 @@ module _ {n : ℕ} (t : Tables) {was : Tables} {room : Size} where
     left = ap₂ (λ (k : ℕ) (u : Tables). split_all (places_of room) (kept_lists n t) 0 (model_of k u) (into (kept_of (model_of n t)))) (omega arith) (from_zero t);
   }
 
-  module _ {base i : ℕ} {size : Size} {starts counts others : List ℕ} {ps : List Float} {last before : List ℕ} (g : Going n t was room base i size starts counts others ps last before) where
+  module _ {base i : ℕ} {size : Size} {lent : Mechanisms} (g : Going n t was room base i size lent) where
     module _ (hold : tables_hold n t ≡ true) (l : i < n) where
       left_here : split_all (places_of room) (kept_lists n t) (i + 1) (model_of (n - (i + 1)) (tables_from (i + 1) t)) (split_next (places_of room) (kept_lists n t) i (here i t) (into g.model)) ≡ decompose (places_of room) (model_of n t)
       unfolding split_all
@@ -151,7 +154,7 @@ module _ {n : ℕ} (t : Tables) {was : Tables} {room : Size} where
       next_is b e = ap (λ (c : Bool). cond c (into g.model) (split_one (places_of room) (kept_lists n t) i (here i t) g.model)) (graphlike_here t hold l ∙ e)
 
       -- one of at most two detectors is kept as it is
-      pub going_kept : get_or t.detector_counts i 0 ≤ 2 → Going n t was room base (i + 1) size starts counts others ps last before
+      pub going_kept : get_or t.detector_counts i 0 ≤ 2 → Going n t was room base (i + 1) size lent
       going_kept d = record {
         model = g.model;
         holds = g.holds;
@@ -164,8 +167,8 @@ module _ {n : ℕ} (t : Tables) {was : Tables} {room : Size} where
         left_one : split_all (places_of room) (kept_lists n t) (i + 1) (model_of (n - (i + 1)) (tables_from (i + 1) t)) (split_one (places_of room) (kept_lists n t) i (here i t) g.model) ≡ decompose (places_of room) (model_of n t)
         left_one = ap (split_all (places_of room) (kept_lists n t) (i + 1) (model_of (n - (i + 1)) (tables_from (i + 1) t))) (sym (next_is false (lt-leb _ _ large.over_two))) ∙ left_here
 
-        one_of : {starts' counts' others' : List ℕ} {ps' : List Float} {last' before' : List ℕ} (x : Split) (s : Size) → split_one (places_of room) (kept_lists n t) i (here i t) g.model ≡ x → After x was (Ok s) t.entries starts' counts' others' ps' last' before' → Going n t was room base (i + 1) s starts' counts' others' ps' last' before'
-        one_of (into b) s e o =
+        one_of : (lent' : Mechanisms) (x : Split) (s : Size) → split_one (places_of room) (kept_lists n t) i (here i t) g.model ≡ x → AfterBy x was (Ok s) t.entries lent' → Going n t was room base (i + 1) s lent'
+        one_of lent' (into b) s e o =
             let w : s ≡ size_of b = cc o.0 in
             let k = one_mechanism (places_of room) (kept_lists n t) i (here i t) g.model b e in
             record {
@@ -175,25 +178,25 @@ module _ {n : ℕ} (t : Tables) {was : Tables} {room : Size} where
               few = omega (arith, g.few, k.few, few_here t hold l large, ap (λ (u : Size). u.mechanisms) w, ap (λ (u : Size). u.mechanisms) g.holds.sized);
               left = ap (split_all (places_of room) (kept_lists n t) (i + 1) (model_of (n - (i + 1)) (tables_from (i + 1) t))) (sym e) ∙ left_one;
             }
-        one_of (refused x) s e o = absurd (cc o)
+        one_of lent' (refused x) s e o = absurd (cc o)
 
-        pub going_one : {starts' counts' others' : List ℕ} {ps' : List Float} {last' before' : List ℕ} (s : Size) → After (split_one (places_of room) (kept_lists n t) i (here i t) g.model) was (Ok s) t.entries starts' counts' others' ps' last' before' → Going n t was room base (i + 1) s starts' counts' others' ps' last' before'
-        going_one s o = one_of (split_one (places_of room) (kept_lists n t) i (here i t) g.model) s refl o
+        pub going_one : (lent' : Mechanisms) (s : Size) → AfterBy (split_one (places_of room) (kept_lists n t) i (here i t) g.model) was (Ok s) t.entries lent' → Going n t was room base (i + 1) s lent'
+        going_one lent' s o = one_of lent' (split_one (places_of room) (kept_lists n t) i (here i t) g.model) s refl o
 
-        stop_of : (starts' counts' others' : List ℕ) (ps' : List Float) (last' before' : List ℕ) (x : Split) (z : Refusal) → split_one (places_of room) (kept_lists n t) i (here i t) g.model ≡ x → After x was (Err z) t.entries starts' counts' others' ps' last' before' → decompose (places_of room) (model_of n t) ≡ refused z
-        stop_of starts' counts' others' ps' last' before' (into b) z e o = absurd (cc o.0)
-        stop_of starts' counts' others' ps' last' before' (refused x) z e o =
+        stop_of : (lent' : Mechanisms) (x : Split) (z : Refusal) → split_one (places_of room) (kept_lists n t) i (here i t) g.model ≡ x → AfterBy x was (Err z) t.entries lent' → decompose (places_of room) (model_of n t) ≡ refused z
+        stop_of lent' (into b) z e o = absurd (cc o.0)
+        stop_of lent' (refused x) z e o =
             let w : x ≡ z = cc in
             sym left_one ∙ ap (split_all (places_of room) (kept_lists n t) (i + 1) (model_of (n - (i + 1)) (tables_from (i + 1) t))) e ∙ stays (places_of room) (kept_lists n t) (i + 1) (model_of (n - (i + 1)) (tables_from (i + 1) t)) x ∙ ap refused w
 
-        pub going_stop : (starts' counts' others' : List ℕ) (ps' : List Float) (last' before' : List ℕ) (z : Refusal) (r : Result Size Refusal) → After (split_one (places_of room) (kept_lists n t) i (here i t) g.model) was (Err z) t.entries starts' counts' others' ps' last' before'
-            → r ≡ Err z → After (decompose (places_of room) (model_of n t)) was r t.entries starts' counts' others' ps' last' before'
-        going_stop starts' counts' others' ps' last' before' z r o q = rw (stop_of starts' counts' others' ps' last' before' (split_one (places_of room) (kept_lists n t) i (here i t) g.model) z refl o) q
+        pub going_stop : (lent' : Mechanisms) (z : Refusal) (r : Result Size Refusal) → AfterBy (split_one (places_of room) (kept_lists n t) i (here i t) g.model) was (Err z) t.entries lent'
+            → r ≡ Err z → AfterBy (decompose (places_of room) (model_of n t)) was r t.entries lent'
+        going_stop lent' z r o q = rw (stop_of lent' (split_one (places_of room) (kept_lists n t) i (here i t) g.model) z refl o) q
 
-    pub going_end : n ≤ i → After (decompose (places_of room) (model_of n t)) was (Ok size) t.entries starts counts others ps last before
+    pub going_end : n ≤ i → AfterBy (decompose (places_of room) (model_of n t)) was (Ok size) t.entries lent
     unfolding split_all model_of
     going_end h =
         let z : n - i ≡ 0 = omega arith in
         let q : into g.model ≡ decompose (places_of room) (model_of n t) =
         ap (λ (k : ℕ). split_all (places_of room) (kept_lists n t) i (model_of k (tables_from i t)) (into g.model)) (sym z) ∙ g.left in
-        subst (λ (x : Split). After x was (Ok size) t.entries starts counts others ps last before) q (ap Ok g.holds.sized, rw (← g.holds.sized) g.holds)
+        subst (λ (x : Split). AfterBy x was (Ok size) t.entries lent) q (ap Ok g.holds.sized, rw (← g.holds.sized) g.holds)

@@ -3,11 +3,13 @@
 #![tactic(auto)]
 
 ghost use Rattle.std.specs.Prelude.{[], ◌≤◌, IfOk, length};
-ghost use Rattle.edges.specs.Tables.{slices};
-ghost use Rattle.reader.specs.Columns.{columns_of};
+ghost use Rattle.edges.specs.Lent.{slices_of};
+ghost use Rattle.reader.specs.Lent.{columns_in};
 ghost use Rattle.stream.specs.Long.{Long};
 ghost use Rattle.standard_input.specs.Ready.{GoesOn};
 
+use edges::EdgeTables;
+use reader::Tables;
 use std::io;
 use std::io::{Read, Write};
 use std::ops::ControlFlow;
@@ -44,59 +46,26 @@ fn next_block(
     Ok(Some((first, n)))
 }
 
-// Block after block, each answered and the answers written, then the end of the input. There are more turns than can ever be taken, since nothing says that an input ends. Long for
-// its parameters, one a line.
+// Block after block, each answered and the answers written, then the end of the input. There are more turns than can ever be taken, since nothing says that an input ends.
 fn serve(
     from: &mut impl Read,
     to: &mut impl Write,
     block: &mut [u8],
     line: &mut [u8],
-    probability_bits: &mut [u64],
-    counts: &mut [[u8; 5]],
-    entries: &mut [u32],
-    shot: &mut [u64],
-    edge_u: &mut [u32],
-    edge_v: &mut [u32],
-    edge_weight: &mut [f64],
-    edge_obs: &mut [u64],
+    read: &mut Tables,
+    edges: &mut EdgeTables,
     out: &mut [u8],
 ) -> io::Result<()>
-    requires { Long (columns_of probability_bits.old counts.old entries.old shot.old) (slices edge_u.old edge_v.old edge_weight.old edge_obs.old []) line.old out.old }
+    requires { Long (columns_in read.old) (slices_of edges.old []) line.old out.old }
 {
     let mut place = stream::start();
     let mut size = 0;
     for _ in 0..u64::MAX {
         let Some((p, n)) = next_block(from, place, size, block)? else {
-            let n = input_end::finish(
-                place.numbers,
-                place.used,
-                line,
-                probability_bits,
-                counts,
-                entries,
-                shot,
-                edge_u,
-                edge_v,
-                edge_weight,
-                edge_obs,
-                out,
-            );
+            let n = input_end::finish(place.numbers, place.used, line, read, edges, out);
             return put(to, out, n);
         };
-        let fed = stream::feed(
-            &block[..n],
-            p,
-            line,
-            probability_bits,
-            counts,
-            entries,
-            shot,
-            edge_u,
-            edge_v,
-            edge_weight,
-            edge_obs,
-            out,
-        );
+        let fed = stream::feed(&block[..n], p, line, read, edges, out);
         match fed {
             ControlFlow::Break(filled) => return put(to, out, filled),
             ControlFlow::Continue(q) => {
@@ -110,32 +79,30 @@ fn serve(
 }
 
 // Standard input answered on standard output, to its end, to the first refusal, or until reading or writing fails: then nothing more is written, so that an output with neither
-// 8f nor ff at its end is known to be cut off. Long for its tables, one a line.
+// 8f nor ff at its end is known to be cut off.
 pub fn answer(rt: &(impl Input + Print)) -> io::Result<()> {
     let mut block = [0u8; 65536];
     let mut out = [0u8; 65536];
-    let mut line = [0u8; 2062];
-    let mut probability_bits = [0u64; 1024];
-    let mut counts = [[0u8; 5]; 1024];
-    let mut entries = [0u32; 8192];
-    let mut shot = [0u64; 6];
-    let mut edge_u = [0u32; 1024];
-    let mut edge_v = [0u32; 1024];
-    let mut edge_weight = [0.0f64; 1024];
-    let mut edge_obs = [0u64; 2048];
+    let mut line = [0u8; stream::LINE_BYTES];
+    let mut read = Tables {
+        probability_bits: &mut [0; 1024],
+        counts: &mut [counts::ROW; 1024],
+        entries: &mut [0; 8192],
+        shot: &mut [0; reader::SHOT_WORDS],
+    };
+    let mut edges = EdgeTables {
+        edge_u: &mut [0; 1024],
+        edge_v: &mut [0; 1024],
+        edge_weight: &mut [0.0; 1024],
+        edge_obs: &mut [0; 2048],
+    };
     serve(
         &mut rt.reader(),
         &mut io::writer(rt),
         &mut block,
         &mut line,
-        &mut probability_bits,
-        &mut counts,
-        &mut entries,
-        &mut shot,
-        &mut edge_u,
-        &mut edge_v,
-        &mut edge_weight,
-        &mut edge_obs,
+        &mut read,
+        &mut edges,
         &mut out,
     )
 }

@@ -2,10 +2,9 @@
 use Prim.Native.Nat.{ℕ}
 use native.Mathlib.Omega.{arith}
 use mathlib.Core.Path.{◌≡◌, refl, ◌∙◌}
-use mathlib.Core.List.{List}
-use lib.ListN.{length, length-take, length-drop}
-use Rattle.counts.specs.Rows.{column}
-use Rattle.counts.proofs.Rows.{column_length}
+use mathlib.Core.List.{List, map}
+use lib.ListN.{length, length-map, length-take, length-drop}
+use Rattle.counts.specs.declared.Row.{Row}
 use Rattle.edges.specs.Tables.{Slices, flat}
 use Rattle.frames.specs.Input.{start}
 use Rattle.frames.specs.declared.Stage.TheVariants.{Nothing, AfterRow}
@@ -31,7 +30,7 @@ begin_keeps c g =
     }
 
 -- four tables and those of the graph, as a program makes them
-pub record Made (bs : List ℕ) (rows : List (List ℕ)) (es ws : List ℕ) (g : Slices) : Type 0 where
+pub record Made (bs : List ℕ) (rows : List Row) (es ws : List ℕ) (g : Slices) : Type 0 where
   pub bits : length bs ≡ 1024
   pub counts : length rows ≡ 1024
   pub entries : length es ≡ 8192
@@ -41,12 +40,29 @@ pub record Made (bs : List ℕ) (rows : List (List ℕ)) (es ws : List ℕ) (g :
   pub weight : length g.edge_weight ≡ 1024
   pub obs : length g.edge_obs ≡ 2048
 
-pub sizes_made : (bs : List ℕ) (rows : List (List ℕ)) (es ws : List ℕ) (g : Slices) → Made bs rows es ws g → Sizes (columns_of bs rows es ws) g
+pub sizes_made : (bs : List ℕ) (rows : List Row) (es ws : List ℕ) (g : Slices) → Made bs rows es ws g → Sizes (columns_of bs rows es ws) g
 sizes_made bs rows es ws g m =
-    let long : (k : ℕ) → length (column 0 k rows) ≡ 1024 = λ k. column_length 0 k rows ∙ m.counts in
+    let long : (f : Row → ℕ) → length (map f rows) ≡ 1024 = λ f. length-map rows f ∙ m.counts in
     record {
-      room = rw (m.bits, long 0, long 1, long 2, long 3, long 4, m.entries, length-take 4 ws, length-drop 4 ws, m.shot) refl;
-      sized = record { bits = omega (arith, m.bits); component_detectors = omega (arith, long 3); component_observables = omega (arith, long 4); entries = omega (arith, m.entries) };
+      room =
+          rw (
+            m.bits,
+            long (λ r. r.detectors),
+            long (λ r. r.observables),
+            long (λ r. r.components),
+            long (λ r. r.component_detectors),
+            long (λ r. r.component_observables),
+            m.entries,
+            length-take 4 ws,
+            length-drop 4 ws,
+            m.shot,
+          ) refl;
+      sized = record {
+        bits = omega (arith, m.bits);
+        component_detectors = omega (arith, long (λ r. r.component_detectors));
+        component_observables = omega (arith, long (λ r. r.component_observables));
+        entries = omega (arith, m.entries);
+      };
       wide = record { ends = omega (arith, m.u); others = omega (arith, m.v); weights = omega (arith, m.weight); rows = omega (arith, m.obs) };
       few = omega (arith, m.u);
       rows = omega (arith, m.obs);

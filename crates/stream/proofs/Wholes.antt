@@ -2,16 +2,20 @@
 use Prim.Native.Nat.{ℕ, ◌+◌, ◌-◌, ◌≤◌}
 use native.Mathlib.Omega.{arith}
 use mathlib.Core.Path.{◌≡◌, refl, ap, ◌∙◌, subst}
-use mathlib.Core.List.{List}
+use mathlib.Core.List.{List, []}
 use lib.ListN.{length, take}
 use borrow.Rule.Slice.PartMut.{mid_of, put_mid}
+use Rattle.edges.specs.declared.EdgeTables.{EdgeTables}
+use Rattle.edges.specs.Lent.{slices_of, SameEdges}
 use Rattle.edges.specs.Tables.{Slices}
+use Rattle.reader.specs.declared.Tables.{Tables}
+use Rattle.reader.specs.Lent.{columns_in, SameTables}
 use Rattle.reader.specs.Columns.{Columns}
 use Rattle.session.specs.declared.Numbers.{Numbers}
 use Rattle.session.specs.declared.On.{On}
 use Rattle.session.specs.Output.{Session, Answer, goes, ends, begin, answer_line}
 use Rattle.session.specs.Kept.{Told, numbers_of, Sizes, Keeps, Kept, told_of, text_of, Tells, Answers}
-use Rattle.session.proofs.Lines.{Same, sizes_same}
+use Rattle.session.proofs.Lines.{same_of, sizes_same}
 use Rattle.stream.specs.declared.Place.{Place}
 use Rattle.std.specs.declared.ops.ControlFlow.TheVariants.{Continue, Break}
 use Rattle.stream.specs.Fed.{Fed, start_place, fed_of, Appended, Whole}
@@ -19,26 +23,20 @@ use Rattle.stream.proofs.Blocks.{appended}
 
 -- ---- lengths
 
-pub record SameGraph (g h : Slices) : Type 0 where
-  pub u : length h.edge_u ≡ length g.edge_u
-  pub v : length h.edge_v ≡ length g.edge_v
-  pub weight : length h.edge_weight ≡ length g.edge_weight
-  pub obs : length h.edge_obs ≡ length g.edge_obs
-
-pub sizes_all : (c d : Columns) (g h : Slices) → Same c d → SameGraph g h → Sizes c g → Sizes d h
-sizes_all c d g h e f z =
-    let y = sizes_same c d g e z in
+pub sizes_all : (r r' : Tables) (t t' : EdgeTables) → SameTables r r' → SameEdges t t' → Sizes (columns_in r) (slices_of t []) → Sizes (columns_in r') (slices_of t' [])
+sizes_all r r' t t' e f z =
+    let y = sizes_same (columns_in r) (columns_in r') (slices_of t []) (same_of r r' e) z in
     record {
       room = y.room;
       sized = y.sized;
       wide = record {
-        ends = omega (arith, f.u, z.wide.ends);
-        others = omega (arith, f.v, z.wide.others);
-        weights = omega (arith, f.weight, z.wide.weights);
-        rows = omega (arith, f.obs, z.wide.rows);
+        ends = omega (arith, f.edge_u_long, z.wide.ends);
+        others = omega (arith, f.edge_v_long, z.wide.others);
+        weights = omega (arith, f.edge_weight_long, z.wide.weights);
+        rows = omega (arith, f.edge_obs_long, z.wide.rows);
       };
-      few = omega (arith, f.u, z.few);
-      rows = omega (arith, f.obs, z.rows);
+      few = omega (arith, f.edge_u_long, z.few);
+      rows = omega (arith, f.edge_obs_long, z.rows);
     }
 
 pub start_is : (n : Numbers) → n ≡ numbers_of begin → ◌≡◌ {A = Place} (record { numbers = n; used = 0; taken = 0; filled = 0 }) start_place

@@ -3,13 +3,15 @@
 
 ghost use Rattle.std.specs.Prelude.{◌≡◌, [], ◌+◌, ◌<◌, ◌≤◌, length};
 ghost use Rattle.codes.specs.declared.Refusal.TheVariants.{Frame};
-ghost use Rattle.edges.specs.Tables.{slices};
-ghost use Rattle.reader.specs.Columns.{columns_of};
+ghost use Rattle.edges.specs.Lent.{slices_of, SameEdges};
+ghost use Rattle.reader.specs.Lent.{columns_in, SameTables};
 ghost use Rattle.replies.specs.Last.{refusal_text};
 ghost use Rattle.std.specs.declared.ops.ControlFlow.TheVariants.{Break};
 ghost use Rattle.stream.specs.Fed.{start_place, LineEnd, Appended, Standing, Feeds, Further, Presses};
 
 use codes::Refusal;
+use edges::EdgeTables;
+use reader::Tables;
 use session::{Numbers, On};
 use std::ops::ControlFlow;
 
@@ -44,6 +46,7 @@ pub fn start() -> Place
 }
 
 // The line feed from a place on, or the end of the block.
+// kept: both end what there is of the line, which is measured and copied before it is asked which of them it was
 fn line_end(block: &[u8], from: usize) -> usize
     requires { from ≤ length block.now }
     ensures { LineEnd block.now from result }
@@ -64,23 +67,18 @@ fn refuse_long(out: &mut [u8], filled: usize) -> Fed
     ControlFlow::Break(filled + replies::write_refusal(Refusal::Frame, &mut out[filled..]))
 }
 
-// A line answered, or what there is of it gathered. Long for its parameters, one a line.
+// A line answered, or what there is of it gathered.
 fn feed_line(
     block: &[u8],
     p: Place,
     line: &mut [u8],
-    probability_bits: &mut [u64],
-    counts: &mut [[u8; 5]],
-    entries: &mut [u32],
-    shot: &mut [u64],
-    edge_u: &mut [u32],
-    edge_v: &mut [u32],
-    edge_weight: &mut [f64],
-    edge_obs: &mut [u64],
+    read: &mut Tables,
+    edges: &mut EdgeTables,
     out: &mut [u8],
 ) -> Fed
-    requires { (p.taken < length block.now) × (p.filled + 1066 ≤ length out.old) × Standing p (columns_of probability_bits.old counts.old entries.old shot.old) (slices edge_u.old edge_v.old edge_weight.old edge_obs.old []) block.now line.old out.old }
-    ensures { Feeds p (columns_of probability_bits.old counts.old entries.old shot.old) (slices edge_u.old edge_v.old edge_weight.old edge_obs.old []) block.now line.old out.old result (columns_of probability_bits.new counts.new entries.new shot.new) (slices edge_u.new edge_v.new edge_weight.new edge_obs.new []) line.new out.new × Further p result }
+    requires { (p.taken < length block.now) × (p.filled + 1066 ≤ length out.old) × Standing p (columns_in read.old) (slices_of edges.old []) block.now line.old out.old }
+    ensures feeds { Feeds p (columns_in read.old) (slices_of edges.old []) block.now line.old out.old result (columns_in read.new) (slices_of edges.new []) line.new out.new × Further p result }
+    ensures same { SameTables read.old read.new × SameEdges edges.old edges.new }
 {
     let end = line_end(block, p.taken);
     let size = end - p.taken;
@@ -96,19 +94,7 @@ fn feed_line(
             ..p
         });
     }
-    let told = session::answer_line(
-        &line[..long],
-        p.numbers,
-        probability_bits,
-        counts,
-        entries,
-        shot,
-        edge_u,
-        edge_v,
-        edge_weight,
-        edge_obs,
-        &mut out[p.filled..],
-    );
+    let told = session::answer_line(&line[..long], p.numbers, read, edges, &mut out[p.filled..]);
     match told {
         ControlFlow::Break(written) => ControlFlow::Break(p.filled + written),
         ControlFlow::Continue(On { numbers, written }) => ControlFlow::Continue(Place {
@@ -120,41 +106,23 @@ fn feed_line(
     }
 }
 
-// Lines until the block is taken, the output has no room for one more reply, or it is ended. Long for its parameters, one a line.
+// Lines until the block is taken, the output has no room for one more reply, or it is ended.
 pub fn feed(
     block: &[u8],
     from: Place,
     line: &mut [u8],
-    probability_bits: &mut [u64],
-    counts: &mut [[u8; 5]],
-    entries: &mut [u32],
-    shot: &mut [u64],
-    edge_u: &mut [u32],
-    edge_v: &mut [u32],
-    edge_weight: &mut [f64],
-    edge_obs: &mut [u64],
+    read: &mut Tables,
+    edges: &mut EdgeTables,
     out: &mut [u8],
 ) -> Fed
-    requires { Standing from (columns_of probability_bits.old counts.old entries.old shot.old) (slices edge_u.old edge_v.old edge_weight.old edge_obs.old []) block.now line.old out.old }
-    ensures { Feeds from (columns_of probability_bits.old counts.old entries.old shot.old) (slices edge_u.old edge_v.old edge_weight.old edge_obs.old []) block.now line.old out.old result (columns_of probability_bits.new counts.new entries.new shot.new) (slices edge_u.new edge_v.new edge_weight.new edge_obs.new []) line.new out.new × Presses from result block.now (length out.old) }
+    requires { Standing from (columns_in read.old) (slices_of edges.old []) block.now line.old out.old }
+    ensures feeds { Feeds from (columns_in read.old) (slices_of edges.old []) block.now line.old out.old result (columns_in read.new) (slices_of edges.new []) line.new out.new × Presses from result block.now (length out.old) }
+    ensures same { SameTables read.old read.new × SameEdges edges.old edges.new }
 {
     let mut p = from;
     // kept: each turn takes as much of the input as a line or a block is long
     while p.taken < block.len() && session::LONGEST_REPLY <= out.len() - p.filled {
-        p = feed_line(
-            block,
-            p,
-            line,
-            probability_bits,
-            counts,
-            entries,
-            shot,
-            edge_u,
-            edge_v,
-            edge_weight,
-            edge_obs,
-            out,
-        )?;
+        p = feed_line(block, p, line, read, edges, out)?;
     }
     ControlFlow::Continue(p)
 }

@@ -22,8 +22,10 @@ use Rattle.dem.specs.Decompose.{Places, Split, into, refused, plus, add_at, has_
 use Rattle.dem.proofs.Checks.{first_of_lem, next_of, first_inside, others_inside}
 use Rattle.last_equal.specs.declared.Span.{Span}
 use Rattle.suggested.specs.declared.Size.{Size}
+use Rattle.suggested.specs.declared.Mechanisms.{Mechanisms}
 use Rattle.last_equal.specs.Last.{symptom_in, Component}
-use Rattle.suggested.specs.Held.{places_of, size_of, Holds, Outcome, components_from, Suggested}
+use Rattle.suggested.specs.Held.{places_of, size_of, components_from, Suggested}
+use Rattle.suggested.specs.Lent.{HoldsBy, OutcomeBy}
 use Rattle.suggested.proofs.Models.{raised_length}
 
 -- ---- the next component
@@ -114,19 +116,19 @@ added_few room p s ms None ms' e = case-of (has_place room s ms)
 
 module _ (room : Size) (p : Float) (all : Split) (was : Tables) (es : List ℕ) where
   -- the model now, and what is left to do from it gives the whole
-  pub record Continued (cs : List Symptom) (size : Size) (starts counts others : List ℕ) (ps : List Float) (last before : List ℕ) : Type 0 where
+  pub record Continued (cs : List Symptom) (size : Size) (lent : Mechanisms) : Type 0 where
     pub model : List ErrorMechanism
-    pub holds : Holds model was size es starts counts others ps last before
+    pub holds : HoldsBy model was size es lent
     pub left : add_components (places_of room) p cs (into model) ≡ all
 
-  module _ (whole : List Symptom) (s : Symptom) (cs : List Symptom) (t : whole ≡ s ∷ cs) (size : Size) (starts counts others : List ℕ) (ps : List Float) (last before : List ℕ)
-      (k : Continued whole size starts counts others ps last before)
-      (starts' counts' others' : List ℕ) (ps' : List Float) (last' before' : List ℕ) where
+  module _ (whole : List Symptom) (s : Symptom) (cs : List Symptom) (t : whole ≡ s ∷ cs) (size : Size) (lent : Mechanisms)
+      (k : Continued whole size lent)
+      (lent' : Mechanisms) where
     left_here : add_components (places_of room) p (s ∷ cs) (into k.model) ≡ all
     left_here = ap (λ (l : List Symptom). add_components (places_of room) p l (into k.model)) (sym t) ∙ k.left
 
-    next_of_split : (x : Split) (g : Size) → add_next (places_of room) p s (into k.model) ≡ x → Outcome x was (Some g) es starts' counts' others' ps' last' before'
-        → Continued cs g starts' counts' others' ps' last' before' × (g.mechanisms ≤ size.mechanisms + 1)
+    next_of_split : (x : Split) (g : Size) → add_next (places_of room) p s (into k.model) ≡ x → OutcomeBy x was (Some g) es lent'
+        → Continued cs g lent' × (g.mechanisms ≤ size.mechanisms + 1)
     unfolding add_components
     next_of_split (into ms) g e o =
         let q = o.0 in
@@ -137,43 +139,43 @@ module _ (room : Size) (p : Float) (all : Split) (was : Tables) (es : List ℕ) 
         )
     next_of_split (refused x) g e o = let q = o.1 in absurd (cc)
 
-    continue_next : (g : Size) → Outcome (add_next (places_of room) p s (into k.model)) was (Some g) es starts' counts' others' ps' last' before'
-        → Continued cs g starts' counts' others' ps' last' before' × (g.mechanisms ≤ size.mechanisms + 1)
+    continue_next : (g : Size) → OutcomeBy (add_next (places_of room) p s (into k.model)) was (Some g) es lent'
+        → Continued cs g lent' × (g.mechanisms ≤ size.mechanisms + 1)
     continue_next g o = next_of_split (add_next (places_of room) p s (into k.model)) g refl o
 
-    full_of_split : (x : Split) → add_next (places_of room) p s (into k.model) ≡ x → Outcome x was None es starts' counts' others' ps' last' before' → all ≡ refused Limit
+    full_of_split : (x : Split) → add_next (places_of room) p s (into k.model) ≡ x → OutcomeBy x was None es lent' → all ≡ refused Limit
     unfolding add_components
     full_of_split (into ms) e o = let q = o.0 in absurd (cc)
     full_of_split (refused x) e o = sym left_here ∙ ap (add_components (places_of room) p cs) e ∙ stopped (places_of room) p cs x ∙ ap refused o.0
 
-    continue_full : Outcome (add_next (places_of room) p s (into k.model)) was None es starts' counts' others' ps' last' before' → Outcome all was None es starts' counts' others' ps' last' before'
+    continue_full : OutcomeBy (add_next (places_of room) p s (into k.model)) was None es lent' → OutcomeBy all was None es lent'
     continue_full o =
-        subst (λ (x : Split). Outcome x was None es starts' counts' others' ps' last' before') (sym (full_of_split (add_next (places_of room) p s (into k.model)) refl o)) (refl, refl)
+        subst (λ (x : Split). OutcomeBy x was None es lent') (sym (full_of_split (add_next (places_of room) p s (into k.model)) refl o)) (refl, refl)
 
-  continue_end : (cs : List Symptom) (size : Size) (starts counts others : List ℕ) (ps : List Float) (last before : List ℕ) → Continued cs size starts counts others ps last before → cs ≡ []
-      → Outcome all was (Some size) es starts counts others ps last before
+  continue_end : (cs : List Symptom) (size : Size) (lent : Mechanisms) → Continued cs size lent → cs ≡ []
+      → OutcomeBy all was (Some size) es lent
   unfolding add_components
-  continue_end cs size starts counts others ps last before k e =
+  continue_end cs size lent k e =
       let q : into k.model ≡ all = ap (λ (l : List Symptom). add_components (places_of room) p l (into k.model)) (sym e) ∙ k.left in
-      subst (λ (x : Split). Outcome x was (Some size) es starts counts others ps last before) q (ap Some k.holds.sized, rw (← k.holds.sized) k.holds)
+      subst (λ (x : Split). OutcomeBy x was (Some size) es lent) q (ap Some k.holds.sized, rw (← k.holds.sized) k.holds)
 
 -- ---- the turns of the loop, at component c of those before `end`
 
-module _ (room : Size) (p : Float) (all : Split) (was : Tables) (cds cos es : List ℕ) (end c e : ℕ) (size : Size) (starts counts others : List ℕ) (ps : List Float) (last before : List ℕ)
-    (k : Continued room p all was es (components_from (end - c) c e cds cos es) size starts counts others ps last before) where
-  pub turn_end : end ≤ c → Outcome all was (Some size) es starts counts others ps last before
+module _ (room : Size) (p : Float) (all : Split) (was : Tables) (cds cos es : List ℕ) (end c e : ℕ) (size : Size) (lent : Mechanisms)
+    (k : Continued room p all was es (components_from (end - c) c e cds cos es) size lent) where
+  pub turn_end : end ≤ c → OutcomeBy all was (Some size) es lent
   unfolding components_of
-  turn_end h = let z : end - c ≡ 0 = omega arith in continue_end room p all was es _ size starts counts others ps last before k (rw z)
+  turn_end h = let z : end - c ≡ 0 = omega arith in continue_end room p all was es _ size lent k (rw z)
 
-  module _ (h : c < end) (starts' counts' others' : List ℕ) (ps' : List Float) (last' before' : List ℕ) where
-    pub turn_full : Outcome (add_next (places_of room) p (symptom_in es (span_at c e cds cos)) (into k.model)) was None es starts' counts' others' ps' last' before'
-        → Outcome all was None es starts' counts' others' ps' last' before'
+  module _ (h : c < end) (lent' : Mechanisms) where
+    pub turn_full : OutcomeBy (add_next (places_of room) p (symptom_in es (span_at c e cds cos)) (into k.model)) was None es lent'
+        → OutcomeBy all was None es lent'
     turn_full o =
         let t = components_turn (end - c) (end - (c + 1)) c e cds cos es (omega arith) in
-        continue_full room p all was es _ _ _ t size starts counts others ps last before k starts' counts' others' ps' last' before' o
+        continue_full room p all was es _ _ _ t size lent k lent' o
 
-    pub turn_next : (g : Size) → Outcome (add_next (places_of room) p (symptom_in es (span_at c e cds cos)) (into k.model)) was (Some g) es starts' counts' others' ps' last' before'
-        → Continued room p all was es (components_from (end - (c + 1)) (c + 1) (e + (get_or cds c 0 + get_or cos c 0)) cds cos es) g starts' counts' others' ps' last' before' × (g.mechanisms ≤ size.mechanisms + 1)
+    pub turn_next : (g : Size) → OutcomeBy (add_next (places_of room) p (symptom_in es (span_at c e cds cos)) (into k.model)) was (Some g) es lent'
+        → Continued room p all was es (components_from (end - (c + 1)) (c + 1) (e + (get_or cds c 0 + get_or cos c 0)) cds cos es) g lent' × (g.mechanisms ≤ size.mechanisms + 1)
     turn_next g o =
         let t = components_turn (end - c) (end - (c + 1)) c e cds cos es (omega arith) in
-        continue_next room p all was es _ _ _ t size starts counts others ps last before k starts' counts' others' ps' last' before' g o
+        continue_next room p all was es _ _ _ t size lent k lent' g o

@@ -6,10 +6,11 @@ ghost use Rattle.dem.specs.Model.{ErrorMechanism};
 ghost use Rattle.dem.specs.Tables.{Tables};
 ghost use Rattle.dem.specs.Decompose.{add_next, add_components, into};
 ghost use Rattle.last_equal.specs.Last.{symptom_in, Component};
-ghost use Rattle.suggested.specs.Appended.{Appendable, Appended};
-ghost use Rattle.suggested.specs.Held.{places_of, place_for, Holds, Held, Outcome, Roomy, components_from, Suggested};
+ghost use Rattle.suggested.specs.Held.{places_of, place_for};
+ghost use Rattle.suggested.specs.Lent.{SameMechanisms, AppendableBy, AppendedBy, HoldsBy, HeldBy, OutcomeBy, RoomyBy, components_at, SuggestedAt};
 
-use dem::Place;
+use cover::Lists;
+use dem::{Model, Place};
 use last_equal::Span;
 
 // The mechanisms of a model and the entries that they take; the lent places for both.
@@ -17,6 +18,17 @@ use last_equal::Span;
 pub struct Size {
     pub mechanisms: usize,
     pub entries: usize,
+}
+
+// The mechanisms so far, kept ones and then appended ones: the starts and lengths of their lists, and their chains.
+#[derive(Drop)]
+pub struct Mechanisms<'a> {
+    pub starts: &'a mut [u32],
+    pub detector_counts: &'a mut [u8],
+    pub observable_counts: &'a mut [u8],
+    pub probability: &'a mut [f64],
+    pub last_of: &'a mut [u32],
+    pub before: &'a mut [u32],
 }
 
 // Whether one more mechanism of so many entries finds its place.
@@ -30,124 +42,90 @@ fn has_place(size: Size, room: Size, more: usize) -> bool
 }
 
 // A new mechanism with the lists of s, at probability 0 with p added.
-fn append(
-    s: Span,
-    p: f64,
-    at: usize,
-    entries: &[u32],
-    starts: &mut [u32],
-    detector_counts: &mut [u8],
-    observable_counts: &mut [u8],
-    probability: &mut [f64],
-    last_of: &mut [u32],
-    before: &mut [u32],
-)
-    requires { Appendable s at entries.now starts.old detector_counts.old observable_counts.old probability.old last_of.old before.old }
-    ensures { Appended s p at entries.now starts.old detector_counts.old observable_counts.old probability.old starts.new detector_counts.new observable_counts.new probability.new last_of.new before.new }
+fn append(s: Span, p: f64, at: usize, entries: &[u32], ms: &mut Mechanisms)
+    requires { AppendableBy s at entries.now ms.old }
+    ensures same { SameMechanisms ms.old ms.new }
+    ensures appended { AppendedBy s p at entries.now ms.old ms.new }
 {
-    starts[at] = s.at as u32;
-    detector_counts[at] = s.detectors;
-    observable_counts[at] = s.observables;
-    probability[at] = probability::add_probability(0.0, p);
-    last_equal::link(starts, detector_counts, entries, at, last_of, before);
+    ms.starts[at] = s.at as u32;
+    ms.detector_counts[at] = s.detectors;
+    ms.observable_counts[at] = s.observables;
+    ms.probability[at] = probability::add_probability(0.0, p);
+    // lent by `&mut *`: while a plain `&` of one field lives, the checker lets no other be used
+    let lists = Lists {
+        starts: &mut *ms.starts,
+        detector_counts: &mut *ms.detector_counts,
+        observable_counts: &mut *ms.observable_counts,
+        entries,
+    };
+    last_equal::link(&lists, at, ms.last_of, ms.before);
 }
 
-// p is added to the last mechanism with the lists of s, or to a new one. Long for its parameters, one a line.
+// p is added to the last mechanism with the lists of s, or to a new one.
 fn add_component(
     s: Span,
     p: f64,
     size: Size,
     room: Size,
     entries: &[u32],
-    starts: &mut [u32],
-    detector_counts: &mut [u8],
-    observable_counts: &mut [u8],
-    probability: &mut [f64],
-    last_of: &mut [u32],
-    before: &mut [u32],
+    ms: &mut Mechanisms,
 ) -> Option<Size>
-    requires { Component (length last_of.old) s entries.now × Roomy 1 size room starts.old detector_counts.old observable_counts.old probability.old before.old × Held size entries.now starts.old detector_counts.old observable_counts.old probability.old last_of.old before.old }
-    ensures { (ms : List ErrorMechanism) (was : Tables) → Holds ms was size entries.now starts.old detector_counts.old observable_counts.old probability.old last_of.old before.old → Outcome (add_next (places_of room) p (symptom_in entries.now s) (into ms)) was result entries.now starts.new detector_counts.new observable_counts.new probability.new last_of.new before.new }
+    requires component { Component (length ms.old.last_of.now) s entries.now }
+    requires roomy { RoomyBy 1 size room ms.old }
+    requires held { HeldBy size entries.now ms.old }
+    ensures same { SameMechanisms ms.old ms.new }
+    ensures added { (so_far : List ErrorMechanism) (was : Tables) → HoldsBy so_far was size entries.now ms.old → OutcomeBy (add_next (places_of room) p (symptom_in entries.now s) (into so_far)) was result entries.now ms.new }
 {
     let n = size.mechanisms;
-    let found = last_equal::find_last(
-        s,
-        n,
+    // lent as in `append`
+    let lists = Lists {
+        starts: &mut *ms.starts,
+        detector_counts: &mut *ms.detector_counts,
+        observable_counts: &mut *ms.observable_counts,
         entries,
-        starts,
-        detector_counts,
-        observable_counts,
-        last_of,
-        before,
-    );
+    };
+    let found = last_equal::find_last(s, n, &lists, &mut *ms.last_of, &mut *ms.before);
     if let Some(k) = found {
-        probability::raise(probability, k, p);
+        probability::raise(ms.probability, k, p);
         return Some(size);
     }
     let more = s.detectors as usize + s.observables as usize;
     if !has_place(size, room, more) {
         return None;
     }
-    append(
-        s,
-        p,
-        n,
-        entries,
-        starts,
-        detector_counts,
-        observable_counts,
-        probability,
-        last_of,
-        before,
-    );
+    append(s, p, n, entries, ms);
     Some(Size {
         mechanisms: n + 1,
         entries: size.entries + more,
     })
 }
 
-// The same of n components from a place on. Long for its parameters, one a line.
+// The same of n components from a place on.
 pub fn add_components(
+    model: &Model,
     n: usize,
     place: Place,
     p: f64,
     size: Size,
     room: Size,
-    component_detectors: &[u8],
-    component_observables: &[u8],
-    entries: &[u32],
-    starts: &mut [u32],
-    detector_counts: &mut [u8],
-    observable_counts: &mut [u8],
-    probability: &mut [f64],
-    last_of: &mut [u32],
-    before: &mut [u32],
+    ms: &mut Mechanisms,
 ) -> Option<Size>
-    requires { Suggested n place.component place.entry (length last_of.old) component_detectors.now component_observables.now entries.now × Roomy n size room starts.old detector_counts.old observable_counts.old probability.old before.old × Held size entries.now starts.old detector_counts.old observable_counts.old probability.old last_of.old before.old }
-    ensures { (ms : List ErrorMechanism) (was : Tables) → Holds ms was size entries.now starts.old detector_counts.old observable_counts.old probability.old last_of.old before.old → Outcome (add_components (places_of room) p (components_from n place.component place.entry component_detectors.now component_observables.now entries.now) (into ms)) was result entries.now starts.new detector_counts.new observable_counts.new probability.new last_of.new before.new }
+    requires suggested { SuggestedAt n place (length ms.old.last_of.now) model.now }
+    requires roomy { RoomyBy n size room ms.old }
+    requires held { HeldBy size model.now.entries.now ms.old }
+    ensures same { SameMechanisms ms.old ms.new }
+    ensures added { (so_far : List ErrorMechanism) (was : Tables) → HoldsBy so_far was size model.now.entries.now ms.old → OutcomeBy (add_components (places_of room) p (components_at n place model.now) (into so_far)) was result model.now.entries.now ms.new }
 {
     let mut entry = place.entry;
     let mut sized = size;
     for component in place.component..place.component + n {
         let s = Span {
             at: entry,
-            detectors: component_detectors[component],
-            observables: component_observables[component],
+            detectors: model.component_detectors[component],
+            observables: model.component_observables[component],
         };
         entry += s.detectors as usize + s.observables as usize;
-        sized = add_component(
-            s,
-            p,
-            sized,
-            room,
-            entries,
-            starts,
-            detector_counts,
-            observable_counts,
-            probability,
-            last_of,
-            before,
-        )?;
+        sized = add_component(s, p, sized, room, model.entries, ms)?;
     }
     Some(sized)
 }

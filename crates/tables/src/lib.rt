@@ -21,8 +21,8 @@ pub fn unmark(stacks: &[Stack], n: usize, flags: &mut [Flags])
     requires { Places (seen stacks.now) n (frees flags.old) }
     ensures { Painted (seen stacks.now) n false (frees flags.old) (frees flags.new) × SameFlags (at_free ∷ []) flags.old flags.new }
 {
-    for i in 0..n {
-        let at = stacks[i].seen as usize;
+    for stack in &stacks[..n] {
+        let at = stack.seen as usize;
         flags[at].free = false;
     }
 }

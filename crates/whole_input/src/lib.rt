@@ -2,11 +2,13 @@
 #![tactic(auto)]
 
 ghost use Rattle.std.specs.Prelude.{[], ◌≤◌, length};
-ghost use Rattle.edges.specs.Tables.{slices};
-ghost use Rattle.reader.specs.Columns.{columns_of};
+ghost use Rattle.edges.specs.Lent.{slices_of};
+ghost use Rattle.reader.specs.Lent.{columns_in};
 ghost use Rattle.whole_input.specs.Whole.{Answered, Put};
 ghost use Rattle.stream.specs.Long.{Long};
 
+use edges::EdgeTables;
+use reader::Tables;
 use std::ops::ControlFlow;
 use stream::Place;
 
@@ -24,42 +26,24 @@ fn put(text: &[u8], at: usize, out: &mut [u8]) -> Option<usize>
     Some(at + text.len())
 }
 
-// Line after line, then the end. The answers to some lines are gathered, then put behind the others. Long for its parameters, one a line.
+// Line after line, then the end. The answers to some lines are gathered, then put behind the others.
+// kept: `standard_input::serve` goes the same way over `Read` and `Write`; but `write_all` promises nothing of what a call that fails wrote, and here every byte is promised, also where the answers do not fit
 fn answer_over(
     input: &[u8],
     line: &mut [u8],
-    probability_bits: &mut [u64],
-    counts: &mut [[u8; 5]],
-    entries: &mut [u32],
-    shot: &mut [u64],
-    edge_u: &mut [u32],
-    edge_v: &mut [u32],
-    edge_weight: &mut [f64],
-    edge_obs: &mut [u64],
+    read: &mut Tables,
+    edges: &mut EdgeTables,
     reply: &mut [u8],
     out: &mut [u8],
 ) -> Option<usize>
-    requires { Long (columns_of probability_bits.old counts.old entries.old shot.old) (slices edge_u.old edge_v.old edge_weight.old edge_obs.old []) line.old reply.old }
+    requires { Long (columns_in read.old) (slices_of edges.old []) line.old reply.old }
     ensures { Answered input.now result out.old out.new }
 {
     let mut p = stream::start();
     let mut at = 0;
     // kept: each turn takes as much of the input as a line or a block is long
     while p.taken < input.len() {
-        let fed = stream::feed(
-            input,
-            p,
-            line,
-            probability_bits,
-            counts,
-            entries,
-            shot,
-            edge_u,
-            edge_v,
-            edge_weight,
-            edge_obs,
-            reply,
-        );
+        let fed = stream::feed(input, p, line, read, edges, reply);
         match fed {
             ControlFlow::Break(n) => return put(&reply[..n], at, out),
             ControlFlow::Continue(q) => {
@@ -68,49 +52,27 @@ fn answer_over(
             }
         }
     }
-    let n = input_end::finish(
-        p.numbers,
-        p.used,
-        line,
-        probability_bits,
-        counts,
-        entries,
-        shot,
-        edge_u,
-        edge_v,
-        edge_weight,
-        edge_obs,
-        reply,
-    );
+    let n = input_end::finish(p.numbers, p.used, line, read, edges, reply);
     put(&reply[..n], at, out)
 }
 
-// What an input is answered with, at the front of the output, as far as it fits. Long for its tables, one a line.
+// What an input is answered with, at the front of the output, as far as it fits.
 pub fn answer_input(input: &[u8], out: &mut [u8]) -> Option<usize>
     ensures { Answered input.now result out.old out.new }
 {
-    let mut line = [0u8; 2062];
-    let mut probability_bits = [0u64; 1024];
-    let mut counts = [[0u8; 5]; 1024];
-    let mut entries = [0u32; 8192];
-    let mut shot = [0u64; 6];
-    let mut edge_u = [0u32; 1024];
-    let mut edge_v = [0u32; 1024];
-    let mut edge_weight = [0.0f64; 1024];
-    let mut edge_obs = [0u64; 2048];
+    let mut line = [0u8; stream::LINE_BYTES];
+    let mut read = Tables {
+        probability_bits: &mut [0; 1024],
+        counts: &mut [counts::ROW; 1024],
+        entries: &mut [0; 8192],
+        shot: &mut [0; reader::SHOT_WORDS],
+    };
+    let mut edges = EdgeTables {
+        edge_u: &mut [0; 1024],
+        edge_v: &mut [0; 1024],
+        edge_weight: &mut [0.0; 1024],
+        edge_obs: &mut [0; 2048],
+    };
     let mut reply = [0u8; 4096];
-    answer_over(
-        input,
-        &mut line,
-        &mut probability_bits,
-        &mut counts,
-        &mut entries,
-        &mut shot,
-        &mut edge_u,
-        &mut edge_v,
-        &mut edge_weight,
-        &mut edge_obs,
-        &mut reply,
-        out,
-    )
+    answer_over(input, &mut line, &mut read, &mut edges, &mut reply, out)
 }

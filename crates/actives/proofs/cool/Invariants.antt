@@ -8,5 +8,5 @@ use Rattle.lists.specs.Lists.{member}
 use Rattle.cells.specs.Tables.{hots, frees, active, SameFlags}
 use Rattle.actives.proofs.cool.Given as goal
 
-abbrev pub invariant-loop-i : goal.invariant-loop-i
-invariant-loop-i l = SameFlags (3 ∷ 4 ∷ []) l.initial.flags l.flags × ((r : ℕ) → get_or (hots l.flags) r false ≡ (get_or (hots l.initial.flags) r false && not (member r (take l.i (active l.stacks))))) × ((r : ℕ) → get_or (frees l.flags) r false ≡ (get_or (frees l.initial.flags) r false && not (member r (take l.i (active l.stacks)))))
+abbrev pub invariant-loop-stack : goal.invariant-loop-stack
+invariant-loop-stack l = SameFlags (3 ∷ 4 ∷ []) l.initial.flags l.flags × ((r : ℕ) → get_or (hots l.flags) r false ≡ (get_or (hots l.initial.flags) r false && not (member r (take l.stack-index (active l.stacks))))) × ((r : ℕ) → get_or (frees l.flags) r false ≡ (get_or (frees l.initial.flags) r false && not (member r (take l.stack-index (active l.stacks)))))

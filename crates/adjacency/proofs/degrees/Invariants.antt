@@ -3,4 +3,4 @@ use Rattle.adjacency.proofs.Tables.{Counting}
 use Rattle.adjacency.proofs.degrees.Given as goal
 
 abbrev pub invariant-loop-e : goal.invariant-loop-e
-invariant-loop-e l = Counting l.d l.edge_u l.edge_v l.e l.adj_offsets
+invariant-loop-e l = Counting l.g.detectors l.g.edge_u.now l.g.edge_v.now l.e l.adj_offsets

@@ -6,4 +6,8 @@ use Rattle.adjacency.proofs.sums.Goals as goal
 
 pub overflow_add-sum : goal.overflow_add-sum
 overflow_add-sum c =
-    omega (arith, c.loop-x.invariant.3 c.loop-x.x (omega arith) (omega arith), total_le (degree c.args.edge_u.now c.args.edge_v.now) (suc c.loop-x.x) c.args.d (omega arith), degrees_few c.args.edge_u.now c.args.edge_v.now c.args.d, c.requires.sized.few)
+    let g = c.args.g.now in
+    let i = c.loop-offset.offset-index in
+    let k = c.loop-offset.invariant in
+    let count = degree g.edge_u.now g.edge_v.now in
+    grind (arith, k.counts i (omega arith), k.past i (omega arith), total_le count i g.detectors, total_le count (suc i) g.detectors, degrees_few g.edge_u.now g.edge_v.now g.detectors, c.requires.sized.few)

@@ -2,7 +2,8 @@ use Prim.Native.Nat.{ℕ}
 use mathlib.Core.Path.{refl, ap, ◌∙◌}
 use native.Mathlib.Nat.{sub-zero}
 use Rattle.lists.specs.Lists.{from, below}
-use Rattle.shot.specs.Shots.{graph_in}
+use Rattle.cells.proofs.Lent.{same_none, same_then}
+use Rattle.lent_graph.specs.Graph.{whole_graph}
 use Rattle.batch_rows.specs.Rows.{check_shots_of, rows_of}
 use Rattle.batch_rows.proofs.Turns.{end_answer, end_rows, stops, goes_on, given_row}
 use Rattle.batch_rows.proofs.decode_rows.Goals as goal
@@ -10,7 +11,7 @@ use Rattle.batch_rows.proofs.decode_rows.Goals as goal
 pub loop-shot-init : goal.loop-shot-init
 unfolding below
 loop-shot-init c =
-    (ap (λ (k : ℕ). check_shots_of (graph_in c.args.detectors c.args.observables c.args.edge_u.now c.args.edge_v.now c.args.edge_weight.now c.args.edge_obs.now) c.args.rows.now (from k 0)) (sub-zero c.args.shots), ap (λ (k : ℕ). rows_of (graph_in c.args.detectors c.args.observables c.args.edge_u.now c.args.edge_v.now c.args.edge_weight.now c.args.edge_obs.now) c.args.rows.now (from k 0) c.args.out.now) (sub-zero c.args.shots), c.requires.ready, refl, refl, refl, refl, refl, refl, refl, refl)
+    (ap (λ (k : ℕ). check_shots_of (whole_graph c.args.g.now) c.args.rows.now (from k 0)) (sub-zero c.args.shots), ap (λ (k : ℕ). rows_of (whole_graph c.args.g.now) c.args.rows.now (from k 0) c.args.out.now) (sub-zero c.args.shots), c.requires.ready, refl, refl, same_none c.args.t.now)
 
 pub decode_at-found-requires : goal.decode_at-found-requires
 decode_at-found-requires c =
@@ -22,19 +23,21 @@ decode_at-found-requires c =
 
 pub returns-in-Stuck : goal.returns-in-Stuck
 returns-in-Stuck c =
-    let t = stops c.args.detectors c.args.observables c.args.edge_u.now c.args.edge_v.now c.args.edge_weight.now c.args.edge_obs.now c.args.rows.now c.loop-shot.out c.decode_at-found.new.out c.args.shots c.loop-shot.shot c.loop-shot-test.true c.in-Stuck.is (c.decode_at-found.ensures.answers, c.decode_at-found.ensures.rows) in record {
+    let t = stops c.args.g.now.detectors c.args.g.now.observables c.args.g.now.edge_u.now c.args.g.now.edge_v.now c.args.g.now.edge_weight.now c.args.g.now.edge_obs.now c.args.rows.now c.loop-shot.out c.decode_at-found.new.out c.args.shots c.loop-shot.shot c.loop-shot-test.true c.in-Stuck.is (c.decode_at-found.ensures.answers, c.decode_at-found.ensures.rows) in record {
       answers = t.0 ∙ c.loop-shot.invariant.0;
       rows = t.1 ∙ c.loop-shot.invariant.1;
+      same = same_then c.loop-shot.invariant.5 c.decode_at-found.ensures.same;
     }
 
 pub loop-shot-preserved : goal.loop-shot-preserved
 loop-shot-preserved c =
-    let t = goes_on c.args.detectors c.args.observables c.args.edge_u.now c.args.edge_v.now c.args.edge_weight.now c.args.edge_obs.now c.args.rows.now c.loop-shot.out c.decode_at-found.new.out c.args.shots c.loop-shot.shot c.loop-shot-test.true c.in_default.is (c.decode_at-found.ensures.answers, c.decode_at-found.ensures.rows) in
-    (t.0 ∙ c.loop-shot.invariant.0, t.1 ∙ c.loop-shot.invariant.1, c.decode_at-found.ensures.rests, c.decode_at-found.auto.out ∙ c.loop-shot.invariant.3, c.decode_at-found.auto.list ∙ c.loop-shot.invariant.4, c.decode_at-found.auto.tree ∙ c.loop-shot.invariant.5, c.decode_at-found.auto.flags ∙ c.loop-shot.invariant.6, c.decode_at-found.auto.stacks ∙ c.loop-shot.invariant.7, c.decode_at-found.auto.links ∙ c.loop-shot.invariant.8, c.decode_at-found.auto.growth ∙ c.loop-shot.invariant.9, c.decode_at-found.auto.sat ∙ c.loop-shot.invariant.10)
+    let t = goes_on c.args.g.now.detectors c.args.g.now.observables c.args.g.now.edge_u.now c.args.g.now.edge_v.now c.args.g.now.edge_weight.now c.args.g.now.edge_obs.now c.args.rows.now c.loop-shot.out c.decode_at-found.new.out c.args.shots c.loop-shot.shot c.loop-shot-test.true c.in_default.is (c.decode_at-found.ensures.answers, c.decode_at-found.ensures.rows) in
+    (t.0 ∙ c.loop-shot.invariant.0, t.1 ∙ c.loop-shot.invariant.1, c.decode_at-found.ensures.rests, c.decode_at-found.auto.out ∙ c.loop-shot.invariant.3, c.decode_at-found.auto.list ∙ c.loop-shot.invariant.4, same_then c.loop-shot.invariant.5 c.decode_at-found.ensures.same)
 
 pub returns : goal.returns
 returns c =
     record {
-      answers = end_answer (graph_in c.args.detectors c.args.observables c.args.edge_u.now c.args.edge_v.now c.args.edge_weight.now c.args.edge_obs.now) c.args.rows.now c.loop-shot.out c.args.shots c.loop-shot.shot c.loop-shot-test.false ∙ c.loop-shot.invariant.0;
-      rows = end_rows (graph_in c.args.detectors c.args.observables c.args.edge_u.now c.args.edge_v.now c.args.edge_weight.now c.args.edge_obs.now) c.args.rows.now c.loop-shot.out c.args.shots c.loop-shot.shot c.loop-shot-test.false ∙ c.loop-shot.invariant.1;
+      answers = end_answer (whole_graph c.args.g.now) c.args.rows.now c.loop-shot.out c.args.shots c.loop-shot.shot c.loop-shot-test.false ∙ c.loop-shot.invariant.0;
+      rows = end_rows (whole_graph c.args.g.now) c.args.rows.now c.loop-shot.out c.args.shots c.loop-shot.shot c.loop-shot-test.false ∙ c.loop-shot.invariant.1;
+      same = c.loop-shot.invariant.5;
     }

@@ -8,7 +8,7 @@ use Rattle.counting.proofs.count.Given as goal
 
 abbrev pub invariant-loop-stack : goal.invariant-loop-stack
 invariant-loop-stack l = record {
-  gathering : Gathering l.d l.edge_u l.edge_v (parents l.tree) l.sat (hots l.initial.flags) (take l.m (front l.stacks)) (frees l.initial.flags) (touched l.initial.links) (cnt l.initial.links) (frees l.flags) (touched l.links) (cnt l.links) l.at (slice l.stack-index l.m (front l.stacks));
+  gathering : Gathering l.g.detectors l.g.edge_u.now l.g.edge_v.now (parents l.tree) l.sat (hots l.initial.flags) (take l.m (front l.stacks)) (frees l.initial.flags) (touched l.initial.links) (cnt l.initial.links) (frees l.flags) (touched l.links) (cnt l.links) l.at (slice l.stack-index l.m (front l.stacks));
   flag : SameFlags (4 ∷ []) l.initial.flags l.flags;
   link : SameLinks (0 ∷ 1 ∷ []) l.initial.links l.links;
 }

@@ -9,6 +9,6 @@ use Rattle.counting.proofs.count_at.Given as goal
 
 abbrev pub invariant-loop-neighbor : goal.invariant-loop-neighbor
 invariant-loop-neighbor l = record {
-  listing : Listing l.d l.edge_u l.edge_v (parents l.tree) l.sat (hots l.flags) l.x (touched l.initial.links) (cnt l.initial.links) l.from (touched l.links) (cnt l.links) l.at l.found (slice (l.first + l.neighbor-index) l.end (near l.adj));
+  listing : Listing l.g.detectors l.g.edge_u.now l.g.edge_v.now (parents l.tree) l.sat (hots l.flags) l.x (touched l.initial.links) (cnt l.initial.links) l.from (touched l.links) (cnt l.links) l.at l.found (slice (l.first + l.neighbor-index) l.end (near l.adj.neighbors.now));
   rest : SameLinks (0 ∷ 1 ∷ []) l.initial.links l.links;
 }

@@ -4,7 +4,7 @@ use Rattle.cover.proofs.gather.Goals as goal
 use Rattle.cover.proofs.gather.Goals.{Else-head}
 
 -- the lowest head is a mechanism from the next one on
-here : (c : Else-head) → (c.loop-next.next ≤ get_or c.loop-next.heads c.lowest_head-lowest.result 0) × (get_or c.loop-next.heads c.lowest_head-lowest.result 0 < c.args.kept)
+here : (c : Else-head) → (c.loop-next.next ≤ get_or c.loop-next.heads c.lowest_head-lowest.result 0) × (get_or c.loop-next.heads c.lowest_head-lowest.result 0 < c.args.index.now.kept)
 here c = merge_head _ _ _ _ _ _ _ _ _ c.requires _ _ _ _ _ c.loop-next.invariant.1 _ c.lowest_head-lowest.ensures c.if-head.false
 
 pub loop-next-init : goal.loop-next-init
@@ -22,11 +22,11 @@ returns-then-head c = merge_ended _ _ _ _ _ _ _ _ _ c.requires _ _ _ _ _ c.loop-
 pub overflow_cast-k : goal.overflow_cast-k
 overflow_cast-k c = let h = here (goal.at.overflow_cast-k c).Else-head in omega arith
 
-pub offset_bounds-next_of-k : goal.offset_bounds-next_of-k
-offset_bounds-next_of-k c = let h = here (goal.at.offset_bounds-next_of-k c).Else-head in record { fits = omega arith }
+pub offset_bounds-index-k : goal.offset_bounds-index-k
+offset_bounds-index-k c = let h = here (goal.at.offset_bounds-index-k c).Else-head in record { fits = omega arith }
 
-pub bounds-next_of-k : goal.bounds-next_of-k
-bounds-next_of-k c = let h = here (goal.at.bounds-next_of-k c).Else-head in omega arith
+pub bounds-index-k : goal.bounds-index-k
+bounds-index-k c = let h = here (goal.at.bounds-index-k c).Else-head in omega arith
 
 pub bounds-heads-lowest-in-loop-next : goal.bounds-heads-lowest-in-loop-next
 bounds-heads-lowest-in-loop-next c = omega (arith, merge_few _ _ _ _ _ _ _ _ _ c.requires)
@@ -34,18 +34,18 @@ bounds-heads-lowest-in-loop-next c = omega (arith, merge_few _ _ _ _ _ _ _ _ _ c
 pub overflow_add-next : goal.overflow_add-next
 overflow_add-next c = let h = here (goal.at.overflow_add-next c).Else-head in record { fits = omega arith }
 
-pub mask_of-mask-requires : goal.mask_of-mask-requires
-mask_of-mask-requires c =
-    let h = here (goal.at.mask_of-mask-requires c).Else-head in
-    (merge_few _ _ _ _ _ _ _ _ _ c.requires, merge_rises _ _ _ _ _ _ _ _ _ c.requires, omega arith, omega arith, c.requires.tables.listed _ h.1)
+pub mask_of-requires : goal.mask_of-requires
+mask_of-requires c =
+    let h = here (goal.at.mask_of-requires c).Else-head in
+    (merge_few _ _ _ _ _ _ _ _ _ c.requires, merge_rises _ _ _ _ _ _ _ _ _ c.requires, (omega arith, omega arith, c.requires.tables.listed _ h.1))
 
-pub loop-next-smaller-then-mask-ne0 : goal.loop-next-smaller-then-mask-ne0
-loop-next-smaller-then-mask-ne0 c = let h = here (goal.at.loop-next-smaller-then-mask-ne0 c).Else-head in omega arith
+pub loop-next-smaller-in-Some : goal.loop-next-smaller-in-Some
+loop-next-smaller-in-Some c = let h = here (goal.at.loop-next-smaller-in-Some c).Else-head in omega arith
 
-pub loop-next-preserved-then-mask-ne0 : goal.loop-next-preserved-then-mask-ne0
-loop-next-preserved-then-mask-ne0 c = (
+pub loop-next-preserved-in-Some : goal.loop-next-preserved-in-Some
+loop-next-preserved-in-Some c = (
   simp length-set c.loop-next.invariant.0,
-  merge_taken _ _ _ _ _ _ _ _ _ c.requires _ _ _ _ _ c.loop-next.invariant.1 _ c.lowest_head-lowest.ensures c.if-head.false c.loop-next.invariant.0 _ c.mask_of-mask.ensures c.loop-next.auto.numbers c.loop-next.auto.masks c.if-mask-ne0.true,
+  merge_taken _ _ _ _ _ _ _ _ _ c.requires _ _ _ _ _ c.loop-next.invariant.1 _ c.lowest_head-lowest.ensures c.if-head.false c.loop-next.invariant.0 _ c.in-Some.ensures c.loop-next.auto.numbers c.loop-next.auto.masks,
 )
 
 pub loop-next-smaller : goal.loop-next-smaller
@@ -54,7 +54,7 @@ loop-next-smaller c = let h = here (goal.at.loop-next-smaller c).Else-head in om
 pub loop-next-preserved : goal.loop-next-preserved
 loop-next-preserved c = (
   simp length-set c.loop-next.invariant.0,
-  merge_passed _ _ _ _ _ _ _ _ _ c.requires _ _ _ _ _ c.loop-next.invariant.1 _ c.lowest_head-lowest.ensures c.if-head.false c.loop-next.invariant.0 _ c.mask_of-mask.ensures c.if-mask-ne0.false,
+  merge_passed _ _ _ _ _ _ _ _ _ c.requires _ _ _ _ _ c.loop-next.invariant.1 _ c.lowest_head-lowest.ensures c.if-head.false c.loop-next.invariant.0 c.in_default.ensures,
 )
 
 pub returns : goal.returns

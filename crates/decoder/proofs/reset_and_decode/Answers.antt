@@ -20,7 +20,7 @@ decode_clean-requires c =
 pub returns : goal.returns
 returns c =
     record {
-      answers = (parted c.args.detectors c.args.observables c.args.edges c.args.edge_u.now c.args.edge_v.now c.args.edge_weight.now c.args.edge_obs.now c.args.shot.now c.args.list.now c.args.row.now c.requires.longer.firsts c.decode_clean.ensures.answers c.decode_clean.ensures.lists c.decode_clean.ensures.rows).0;
-      lists = (parted c.args.detectors c.args.observables c.args.edges c.args.edge_u.now c.args.edge_v.now c.args.edge_weight.now c.args.edge_obs.now c.args.shot.now c.args.list.now c.args.row.now c.requires.longer.firsts c.decode_clean.ensures.answers c.decode_clean.ensures.lists c.decode_clean.ensures.rows).1.0;
-      rows = (parted c.args.detectors c.args.observables c.args.edges c.args.edge_u.now c.args.edge_v.now c.args.edge_weight.now c.args.edge_obs.now c.args.shot.now c.args.list.now c.args.row.now c.requires.longer.firsts c.decode_clean.ensures.answers c.decode_clean.ensures.lists c.decode_clean.ensures.rows).1.1;
+      answers = (parted c.args.g.now.detectors c.args.g.now.observables c.args.g.now.edges c.args.g.now.edge_u.now c.args.g.now.edge_v.now c.args.g.now.edge_weight.now c.args.g.now.edge_obs.now c.args.shot.now c.args.list.now c.args.row.now c.requires.longer.firsts c.decode_clean.ensures.answers c.decode_clean.ensures.lists c.decode_clean.ensures.rows).0;
+      lists = (parted c.args.g.now.detectors c.args.g.now.observables c.args.g.now.edges c.args.g.now.edge_u.now c.args.g.now.edge_v.now c.args.g.now.edge_weight.now c.args.g.now.edge_obs.now c.args.shot.now c.args.list.now c.args.row.now c.requires.longer.firsts c.decode_clean.ensures.answers c.decode_clean.ensures.lists c.decode_clean.ensures.rows).1.0;
+      rows = (parted c.args.g.now.detectors c.args.g.now.observables c.args.g.now.edges c.args.g.now.edge_u.now c.args.g.now.edge_v.now c.args.g.now.edge_weight.now c.args.g.now.edge_obs.now c.args.shot.now c.args.list.now c.args.row.now c.requires.longer.firsts c.decode_clean.ensures.answers c.decode_clean.ensures.lists c.decode_clean.ensures.rows).1.1;
     }

@@ -16,4 +16,4 @@ copy_to-requires c = omega (arith, part_fits c.requires c.loop-k.invariant c.loo
 pub loop-k-preserved : goal.loop-k-preserved
 loop-k-preserved c =
     appending_next c.requires c.loop-k.invariant c.loop-k.auto.k c.loop-k-test.true _ _
-    (ap (λ m. take m (drop (get_or c.args.starts.now c.loop-k.k 0) c.args.entries.now)) (add-sub_cancel_left (get_or c.args.starts.now c.loop-k.k 0) _)) c.copy_to.ensures
+    (ap (λ m. take m (drop (get_or c.args.ms.now.starts.now c.loop-k.k 0) c.args.entries.now)) (add-sub_cancel_left (get_or c.args.ms.now.starts.now c.loop-k.k 0) _)) c.copy_to.ensures

@@ -11,10 +11,10 @@ copy_kept-kept-requires c =
 
 pub index_last-requires : goal.index_last-requires
 index_last-requires c =
-    let few = kept_few c.copy_kept-kept.ensures c.requires.fitting in
-    (kept_tabled c.copy_kept-kept.ensures c.requires.fitting _ refl, omega (arith, few, c.requires.before_hold))
+    let few = kept_few c.copy_kept-kept.ensures.copied c.requires.fitting in
+    (kept_tabled c.copy_kept-kept.ensures.copied c.requires.fitting _ refl, omega (arith, few, c.requires.before_hold))
 
 pub index_kept-requires : goal.index_kept-requires
 index_kept-requires c =
-    let few = kept_few c.copy_kept-kept.ensures c.requires.fitting in
-    (kept_tabled c.copy_kept-kept.ensures c.requires.fitting _ c.requires.wide, omega (arith, few, c.requires.next_hold))
+    let few = kept_few c.copy_kept-kept.ensures.copied c.requires.fitting in
+    (kept_tabled c.copy_kept-kept.ensures.copied c.requires.fitting _ c.requires.wide, omega (arith, few, c.requires.next_hold))

@@ -3,7 +3,7 @@ use Rattle.demand3.proofs.Verified.{fits, verified}
 use Rattle.demand3.proofs.decode_and_mark.Goals as goal
 
 pub mark_answer-requires : goal.mark_answer-requires
-mark_answer-requires c = fits _ _ _ _ c.decode_shot.ensures
+mark_answer-requires c = fits _ _ _ _ c.decode_shot-answer.ensures
 
 pub returns : goal.returns
-returns c = verified _ _ _ _ _ c.decode_shot.ensures c.mark_answer.ensures
+returns c = verified _ _ _ _ _ c.decode_shot-answer.ensures c.mark_answer.ensures

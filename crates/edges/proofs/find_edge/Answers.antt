@@ -22,4 +22,4 @@ loop-at-preserved c =
     (next_link c.requires.4 c.args.u c.loop-at.at below first, onward_next c.requires.4 c.args.u c.args.v c.loop-at.at below first (sym c.same_ends.ensures ∙ c.if-same_ends.false) ∙ c.loop-at.invariant.1)
 
 pub returns : goal.returns
-returns c = sym (onward_end c.args.edge_u.now c.args.edge_v.now c.args.u c.args.v c.loop-at.at c.loop-at-test.false) ∙ c.loop-at.invariant.1
+returns c = sym (onward_end c.args.edges.now.edge_u.now c.args.edges.now.edge_v.now c.args.u c.args.v c.loop-at.at c.loop-at-test.false) ∙ c.loop-at.invariant.1

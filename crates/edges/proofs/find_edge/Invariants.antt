@@ -5,7 +5,7 @@ use Rattle.edges.proofs.Chains.{onward, Link, fuel}
 use Rattle.edges.proofs.find_edge.Given as goal
 
 abbrev pub invariant-loop-at : goal.invariant-loop-at
-invariant-loop-at l = Link l.edge_u l.u l.count l.at × (onward l.edge_u l.edge_v l.u l.v l.at ≡ last_ends l.edge_u l.edge_v l.u l.v l.count)
+invariant-loop-at l = Link l.edges.edge_u.now l.u l.count l.at × (onward l.edges.edge_u.now l.edges.edge_v.now l.u l.v l.at ≡ last_ends l.edges.edge_u.now l.edges.edge_v.now l.u l.v l.count)
 
 abbrev pub decreases-loop-at : goal.decreases-loop-at
 decreases-loop-at l = fuel l.at

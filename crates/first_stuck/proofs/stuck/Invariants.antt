@@ -6,5 +6,5 @@ use Rattle.cells.specs.Tables.{frees, active}
 use Rattle.first_stuck.specs.FirstStuck.{first_shut}
 use Rattle.first_stuck.proofs.stuck.Given as goal
 
-abbrev pub invariant-loop-i : goal.invariant-loop-i
-invariant-loop-i l = first_shut (frees l.flags) (slice l.i l.a (active l.stacks)) ≡ first_shut (frees l.flags) (take l.a (active l.stacks))
+abbrev pub invariant-loop-stack : goal.invariant-loop-stack
+invariant-loop-stack l = first_shut (frees l.flags) (slice l.stack-index l.a (active l.stacks)) ≡ first_shut (frees l.flags) (take l.a (active l.stacks))

@@ -7,8 +7,11 @@ use lib.ListN.{replicate}
 use Rattle.graph.proofs.Answers.{zero_left, edges_left}
 use Rattle.graph.proofs.from_model.Goals as goal
 
-pub returns-in-Ok : goal.returns-in-Ok
-returns-in-Ok c = edges_left _ _ _ _ _ _ c.in-Ok.ensures
+pub returns-in-Ok-clause-compiles : goal.returns-in-Ok-clause-compiles
+returns-in-Ok-clause-compiles c = edges_left _ _ _ _ _ _ c.in-Ok.ensures.joined
 
-pub returns-in-Err : goal.returns-in-Err
-returns-in-Err c = rw c.refuse.ensures.0 (zero_left _ _ _ _ _ _ _ c.in-Err.ensures (c.refuse.ensures.1 ∙ ap (λ n. replicate n 0) c.join_all.auto.edge_u) (c.refuse.ensures.2 ∙ ap (λ n. replicate n 0) c.join_all.auto.edge_v) (c.refuse.ensures.3 ∙ ap (λ n. replicate n (fin false 0 (pos 0))) c.join_all.auto.edge_weight) (c.refuse.ensures.4 ∙ ap (λ n. replicate n 0) c.join_all.auto.edge_obs))
+pub returns-in-Err-clause-compiles : goal.returns-in-Err-clause-compiles
+returns-in-Err-clause-compiles c =
+    let zero = c.refuse.ensures.zeroed in
+    let same = c.join_all.ensures.same_edges in
+    rw c.refuse.ensures.refused (zero_left _ _ _ _ _ _ _ c.in-Err.ensures.joined (zero.edge_u ∙ ap (λ n. replicate n 0) same.edge_u_long) (zero.edge_v ∙ ap (λ n. replicate n 0) same.edge_v_long) (zero.edge_weight ∙ ap (λ n. replicate n (fin false 0 (pos 0))) same.edge_weight_long) (zero.edge_obs ∙ ap (λ n. replicate n 0) same.edge_obs_long))

@@ -6,5 +6,5 @@ use Rattle.kept.proofs.copy_column.Given as goal
 abbrev pub invariant-loop-i : goal.invariant-loop-i
 invariant-loop-i g l = record {
   few : l.at ≤ l.i;
-  done : (z : g.row.T.Denot) → Copying l.detector_counts (λ k. get_or l.column k z) l.initial.out l.i l.at l.out;
+  done : (z : g.row.T.Denot) → Copying l.model.detector_counts.now (λ k. get_or l.column k z) l.initial.out l.i l.at l.out;
 }

@@ -6,6 +6,6 @@ use Rattle.kept.proofs.copy_components.Given as goal
 
 abbrev pub invariant-loop-i : goal.invariant-loop-i
 invariant-loop-i l = record {
-  here : l.end ≡ total (take l.i l.component_counts);
-  done : Pasting l.detector_counts (λ k. total (take k l.component_counts)) l.counts l.initial.out l.i l.at l.out;
+  here : l.end ≡ total (take l.i l.model.component_counts.now);
+  done : Pasting l.model.detector_counts.now (λ k. total (take k l.model.component_counts.now)) l.counts l.initial.out l.i l.at l.out;
 }

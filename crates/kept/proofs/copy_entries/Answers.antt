@@ -20,7 +20,7 @@ head-h-requires c =
 pub past-place-requires : goal.past-place-requires
 past-place-requires c =
     let inside = inside_here _ _ _ _ _ c.loop-i-test.true c.requires.holds c.head-h.ensures c.loop-i.invariant.here in
-    let ends = past_inside c.head-h.result c.loop-i.place c.args.component_detectors.now c.args.component_observables.now c.args.entries.now inside in
+    let ends = past_inside c.head-h.result c.loop-i.place c.args.model.now.component_detectors.now c.args.model.now.component_observables.now c.args.model.now.entries.now inside in
     (inside.detectors, inside.observables, omega (arith, c.well_formed))
 
 pub slice_bounds-copy_to-count : goal.slice_bounds-copy_to-count
@@ -58,8 +58,8 @@ loop-i-preserved c =
           record {
             here = s.next;
             done = rw (w.out-is, w.at-is, w.copy_to.ensures)
-                (paste_kept _ _ c.args.entries.now _ c.loop-i.i c.loop-i.at size c.loop-i.out (take size (drop c.loop-i.place.entry c.args.entries.now)) c.loop-i.invariant.done few (omega arith) (omega arith)
-                (ap (λ (k : ℕ). take size (drop k c.args.entries.now)) s.from));
+                (paste_kept _ _ c.args.model.now.entries.now _ c.loop-i.i c.loop-i.at size c.loop-i.out (take size (drop c.loop-i.place.entry c.args.model.now.entries.now)) c.loop-i.invariant.done few (omega arith) (omega arith)
+                (ap (λ (k : ℕ). take size (drop k c.args.model.now.entries.now)) s.from));
             marked = rw (w.starts-is, w.kept-is, s.from) (copy_kept _ _ _ c.loop-i.i c.loop-i.kept c.loop-i.starts c.loop-i.invariant.marked (omega (arith, c.requires.started)) few);
           }
       | else-h-le-MOST_DETECTORS w ↦

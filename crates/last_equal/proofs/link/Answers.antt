@@ -3,13 +3,13 @@ use Rattle.last_equal.proofs.Chain.{linked_below, linked_past, linked_head}
 use Rattle.last_equal.proofs.link.Goals as goal
 
 pub bounds-last_of-d : goal.bounds-last_of-d
-bounds-last_of-d c = linked_below _ _ _ _ _ _ c.requires c.if-detector_counts-k-gt0.true
+bounds-last_of-d c = linked_below _ _ _ _ _ _ c.requires c.if-lists-k-gt0.true
 
-pub bounds-last_of-d-then-detector_counts-k-gt0 : goal.bounds-last_of-d-then-detector_counts-k-gt0
-bounds-last_of-d-then-detector_counts-k-gt0 c = linked_below _ _ _ _ _ _ c.requires c.if-detector_counts-k-gt0.true
+pub bounds-last_of-d-then-lists-k-gt0 : goal.bounds-last_of-d-then-lists-k-gt0
+bounds-last_of-d-then-lists-k-gt0 c = linked_below _ _ _ _ _ _ c.requires c.if-lists-k-gt0.true
 
-pub returns-then-detector_counts-k-gt0 : goal.returns-then-detector_counts-k-gt0
-returns-then-detector_counts-k-gt0 c = linked_head _ _ _ _ _ _ c.requires c.if-detector_counts-k-gt0.true
+pub returns-then-lists-k-gt0 : goal.returns-then-lists-k-gt0
+returns-then-lists-k-gt0 c = linked_head _ _ _ _ _ _ c.requires c.if-lists-k-gt0.true
 
-pub returns-else-detector_counts-k-gt0 : goal.returns-else-detector_counts-k-gt0
-returns-else-detector_counts-k-gt0 c = linked_past _ _ _ _ _ _ c.requires c.if-detector_counts-k-gt0.false
+pub returns-else-lists-k-gt0 : goal.returns-else-lists-k-gt0
+returns-else-lists-k-gt0 c = linked_past _ _ _ _ _ _ c.requires c.if-lists-k-gt0.false

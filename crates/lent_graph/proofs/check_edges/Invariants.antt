@@ -2,10 +2,9 @@
 use Prim.Native.Nat.{◌-◌}
 use mathlib.Core.Path.{◌≡◌}
 use Rattle.lists.specs.Lists.{from, below}
-use Rattle.steps.specs.Call.{graph_of, check_edges}
+use Rattle.steps.specs.Call.{check_edges}
+use Rattle.lent_graph.specs.Graph.{edge_graph}
 use Rattle.lent_graph.proofs.check_edges.Given as goal
 
 abbrev pub invariant-loop-e : goal.invariant-loop-e
-invariant-loop-e l =
-    let g = graph_of l.detectors l.observables l.edges l.edge_u l.edge_v l.edge_weight l.edge_obs in
-    check_edges g (from (l.edges - l.e) l.e) ≡ check_edges g (below l.edges)
+invariant-loop-e l = check_edges (edge_graph l.g) (from (l.g.edges - l.e) l.e) ≡ check_edges (edge_graph l.g) (below l.g.edges)

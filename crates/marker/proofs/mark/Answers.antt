@@ -4,12 +4,12 @@ use Rattle.std.proofs.lemmas.Result.{err_from_is_err_and}
 use mathlib.Core.Path.{ap}
 use native.Mathlib.Omega.{arith}
 use Rattle.marking.specs.declared.Marking.{Marking}
-use Rattle.lent_graph.specs.Call.{lent_of}
+use Rattle.lent_graph.specs.Graph.{lent}
 use Rattle.marker.proofs.Marks.{Accepted, accepted_by, rooms, ready, untouched, in_table, written}
 use Rattle.marker.proofs.mark.Goals as goal
 use Rattle.marker.proofs.mark.Goals.{In_ok-check_call}
 
-ok : (c : In_ok-check_call) → Accepted (lent_of c.args.detectors c.args.observables c.args.edges c.args.edge_u.now c.args.edge_v.now c.args.edge_weight.now c.args.edge_obs.now) c.args.row.now c.args.marks.now c.args.wrong.now c.args.shot.now c.args.width
+ok : (c : In_ok-check_call) → Accepted (lent c.args.g.now) c.args.row.now c.args.marks.now c.args.wrong.now c.args.shot.now c.args.width
 ok c = accepted_by _ _ _ _ _ _ c.long-enough.result c.long-enough.ensures c.in_ok-check_call.ensures
 
 pub slice_bounds-judge-end : goal.slice_bounds-judge-end

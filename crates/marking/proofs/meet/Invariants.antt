@@ -3,4 +3,4 @@ use Rattle.marking.proofs.Meeting.{Meeting}
 use Rattle.marking.proofs.meet.Given as goal
 
 abbrev pub invariant-loop-e : goal.invariant-loop-e
-invariant-loop-e l = Meeting l.edges l.edge_u l.edge_v l.list l.initial.marks l.initial.wrong l.marks l.wrong l.e-iterator.iter.rest.now
+invariant-loop-e l = Meeting l.g.detectors l.g.edges l.g.edge_u.now l.g.edge_v.now l.list l.initial.marks l.initial.wrong l.marks l.wrong l.e-iterator.iter.rest.now

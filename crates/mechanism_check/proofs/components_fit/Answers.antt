@@ -6,16 +6,18 @@ use Rattle.mechanism_check.proofs.components_fit.Goals as goal
 
 pub symptom_fits-requires : goal.symptom_fits-requires
 symptom_fits-requires c =
-    omega (arith, first_inside c.args.component_detectors.now c.args.component_observables.now c.args.entries.now _ c.loop-component.component c.loop-component.entry (omega arith) c.loop-component.invariant.inside)
+    let m = c.args.model.now in
+    omega (arith, first_inside m.component_detectors.now m.component_observables.now m.entries.now _ c.loop-component.component c.loop-component.entry (omega arith) c.loop-component.invariant.inside)
 
 pub loop-component-preserved : goal.loop-component-preserved
 loop-component-preserved c =
+    let m = c.args.model.now in
     let k = c.loop-component.component in
     let left = c.args.place.component + c.args.n - k in
     let one : c.args.place.component + c.args.n - (k + 1) ≡ left - 1 = omega arith in
-    let turn = fit_turn c.args.component_detectors.now c.args.component_observables.now c.args.entries.now c.args.detectors c.args.observables left k c.loop-component.entry (omega arith) in
+    let turn = fit_turn m.component_detectors.now m.component_observables.now m.entries.now m.detectors m.observables left k c.loop-component.entry (omega arith) in
     rw one (record {
-      inside = others_inside c.args.component_detectors.now c.args.component_observables.now c.args.entries.now left k c.loop-component.entry (omega arith) c.loop-component.invariant.inside;
+      inside = others_inside m.component_detectors.now m.component_observables.now m.entries.now left k c.loop-component.entry (omega arith) c.loop-component.invariant.inside;
       left = rw (← c.loop-component.invariant.left, turn, ← c.symptom_fits.ensures, c.if-not-symptom_fits.false);
     })
 

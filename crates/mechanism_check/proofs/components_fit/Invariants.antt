@@ -6,8 +6,11 @@ use Rattle.dem.specs.Positions.{Within}
 use Rattle.mechanism_check.proofs.components_fit.Given as goal
 
 abbrev pub invariant-loop-component : goal.invariant-loop-component
-invariant-loop-component l = record {
-  inside : Within (l.fn.place.component + l.n - l.component) l.component l.entry l.component_detectors l.component_observables l.entries;
-  left : symptoms_fit l.detectors l.observables (components_of (l.fn.place.component + l.n - l.component) (drop l.component l.component_detectors) (drop l.component l.component_observables) (drop l.entry l.entries))
-      ≡ symptoms_fit l.detectors l.observables (components_of l.n (drop l.fn.place.component l.component_detectors) (drop l.fn.place.component l.component_observables) (drop l.fn.place.entry l.entries));
-}
+invariant-loop-component l =
+    let m = l.model in
+    let left = l.fn.place.component + l.n - l.component in
+    record {
+      inside : Within left l.component l.entry m.component_detectors.now m.component_observables.now m.entries.now;
+      left : symptoms_fit m.detectors m.observables (components_of left (drop l.component m.component_detectors.now) (drop l.component m.component_observables.now) (drop l.entry m.entries.now))
+          ≡ symptoms_fit m.detectors m.observables (components_of l.n (drop l.fn.place.component m.component_detectors.now) (drop l.fn.place.component m.component_observables.now) (drop l.fn.place.entry m.entries.now));
+    }

@@ -3,7 +3,6 @@ use lib.Ieee.{of_bits}
 use Rattle.model_graph.proofs.Answers.{bare}
 use Rattle.model_graph.proofs.compile.Goals as goal
 
-pub returns : goal.returns
+pub returns-clause-compiles : goal.returns-clause-compiles
 unfolding of_bits
-returns c =
-    bare c.args.detectors c.args.observables _ _ _ _ c.from_model.ensures
+returns-clause-compiles c = bare c.args.n.detectors c.args.n.observables _ _ _ _ c.from_model.ensures.compiles

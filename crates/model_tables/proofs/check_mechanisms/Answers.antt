@@ -24,8 +24,8 @@ returns-in_err-check_mechanism c =
 pub past-place-requires : goal.past-place-requires
 past-place-requires c =
     let inside = inside_here _ _ _ _ _ c.loop-i-test.true c.requires c.head-h.ensures c.loop-i.invariant.here in
-    let ends = past_inside c.head-h.result c.loop-i.place c.args.component_detectors.now c.args.component_observables.now c.args.entries.now inside in
-    (inside.detectors, inside.observables, omega (arith, c.well_formed))
+    let ends = past_inside c.head-h.result c.loop-i.place c.args.model.now.component_detectors.now c.args.model.now.component_observables.now c.args.model.now.entries.now inside in
+    (inside.detectors, inside.observables, omega arith)
 
 pub loop-i-preserved : goal.loop-i-preserved
 loop-i-preserved c =

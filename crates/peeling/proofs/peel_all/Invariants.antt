@@ -7,5 +7,5 @@ use Rattle.peeling.proofs.Order.{Peeling}
 use Rattle.peeling.proofs.peel_all.Given as goal
 
 abbrev pub invariant-loop-i : goal.invariant-loop-i
-invariant-loop-i l = Peeling l.d l.edge_u l.edge_v l.sat (labels l.d (parents l.initial.tree)) (defects l.initial.stacks) l.defect_count (frees l.initial.flags) (lits l.initial.flags) (front l.initial.stacks) (active l.initial.stacks) (order_edge l.initial.stacks) (order_parent l.initial.stacks) l.initial.list l.i l.listed (frees l.flags) (lits l.flags) (front l.stacks) (active l.stacks) (order_edge l.stacks) (order_parent l.stacks) l.list
-    × Same l.d (parents l.initial.tree) (parents l.tree) × SameTree (0 ∷ []) l.initial.tree l.tree × SameFlags (0 ∷ 4 ∷ []) l.initial.flags l.flags × SameStacks (2 ∷ 3 ∷ 4 ∷ 5 ∷ []) l.initial.stacks l.stacks
+invariant-loop-i l = Peeling l.g.detectors l.g.edge_u.now l.g.edge_v.now l.sat (labels l.g.detectors (parents l.initial.tree)) (defects l.initial.stacks) l.defect_count (frees l.initial.flags) (lits l.initial.flags) (front l.initial.stacks) (active l.initial.stacks) (order_edge l.initial.stacks) (order_parent l.initial.stacks) l.initial.list l.i l.listed (frees l.flags) (lits l.flags) (front l.stacks) (active l.stacks) (order_edge l.stacks) (order_parent l.stacks) l.list
+    × Same l.g.detectors (parents l.initial.tree) (parents l.tree) × SameTree (0 ∷ []) l.initial.tree l.tree × SameFlags (0 ∷ 4 ∷ []) l.initial.flags l.flags × SameStacks (2 ∷ 3 ∷ 4 ∷ 5 ∷ []) l.initial.stacks l.stacks

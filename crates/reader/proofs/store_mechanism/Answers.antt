@@ -1,8 +1,13 @@
--- `reader::store_mechanism`: an entry in each column, and the lists.
-use Rattle.std.proofs.Common.{arith, refl, ◌+◌}
+-- `reader::store_mechanism`: a count in each column, and the lists.
+use Rattle.std.proofs.Common.{arith, List, ℕ, refl, sym, ap, ◌∙◌, ◌+◌, set}
+use Rattle.std.proofs.lemmas.List.Edits.{sets}
 use Rattle.hex_text.specs.Hex.{bytes_of}
 use Rattle.frames.proofs.FrameKinds.{long_is, size_is}
+use Rattle.reader.specs.Columns.{stored_frame}
+use Rattle.reader.proofs.Stored.{columns_eq}
+use Rattle.reader.proofs.Parts.{mechanism_columns}
 use Rattle.reader.proofs.Reading.{first_long, second_long, listed_is}
+use Rattle.counts.specs.Rows as counts
 use Rattle.reader.proofs.store_mechanism.Goals as goal
 
 pub read_u16s-requires : goal.read_u16s-requires
@@ -10,19 +15,18 @@ read_u16s-requires c =
     let l = bytes_of c.args.line.now in
     (omega (arith, long_is l 9 c.requires.0), omega (arith, size_is l 9))
 
-pub returns : goal.returns
-returns c =
+pub returns-clause-stores : goal.returns-clause-stores
+unfolding stored_frame
+returns-clause-stores c =
     let l = bytes_of c.args.line.now in
-    let d = c.set_count.ensures in
-    let o = c.set_count-2.ensures in
-    let k = c.set_count-3.ensures in
-    let some = first_long l 9 in
-    let more = second_long l 9 in (
-      cc,
-      cc (d.0, o.1.rest 0 refl, k.1.rest 0 refl),
-      cc (d.1.rest 1 refl, o.0, k.1.rest 1 refl),
-      cc (d.1.rest 2 refl, o.1.rest 2 refl, k.0),
-      cc (d.1.rest 3 refl, o.1.rest 3 refl, k.1.rest 3 refl),
-      cc (d.1.rest 4 refl, o.1.rest 4 refl, k.1.rest 4 refl),
-      cc (listed_is l 9 (c.byte_at-d.result + c.byte_at-o.result) (omega arith)),
-    )
+    let m = c.args.n.mechanisms in
+    let rows = c.args.read.now.counts.now in
+    let d = c.byte_at-d.result in
+    let o = c.byte_at-o.result in
+    mechanism_columns rows m d o _ _ _
+    ∙ columns_eq _ _ _ _ _ _ _ _ _ _ _ _ _ _ _ _ _ _ (ap (λ (v : ℕ). set c.args.read.now.probability_bits.now m v) c.u64_at.ensures)
+    (ap (λ (v : ℕ). set (counts.detectors rows) m v) (c.byte_at-d.ensures ∙ sym (first_long l 9)))
+    (ap (λ (v : ℕ). set (counts.observables rows) m v) (c.byte_at-o.ensures ∙ sym (second_long l 9)))
+    refl refl refl
+    (c.read_u16s.ensures ∙ ap (λ (ls : List ℕ). sets c.args.read.now.entries.now c.args.n.entries ls) (listed_is l 9 (d + o) (omega arith)))
+    refl refl

@@ -4,5 +4,5 @@ use Rattle.cells.specs.Tables.{seen}
 use Rattle.rest.proofs.CleanRows.{UsedRows}
 use Rattle.rest.proofs.clean.Given as goal
 
-abbrev pub invariant-loop-i : goal.invariant-loop-i
-invariant-loop-i l = UsedRows l.d l.edge_u l.edge_v (slice l.i l.n (seen l.stacks)) l.tree l.flags l.growth l.sat
+abbrev pub invariant-loop-stack : goal.invariant-loop-stack
+invariant-loop-stack l = UsedRows l.g.detectors l.g.edge_u.now l.g.edge_v.now (slice l.stack-index l.n (seen l.stacks)) l.tree l.flags l.growth l.sat

@@ -1,38 +1,26 @@
 -- `session::answer_kind`: 04, 06, or nothing to tell.
-use native.Mathlib.Omega.{arith}
-use lib.ListN.{take, drop}
-use Rattle.counts.specs.Rows.{column}
-use Rattle.reader.proofs.Parts.{places_of, truth_is}
-use Rattle.session.proofs.ByKind.{some_model, some_shot, by_model, by_shot, by_other}
+use mathlib.Core.Path.{ap}
+use Rattle.frames.specs.Frames.{kind_byte}
+use Rattle.reader.specs.Lent.{columns_in}
+use Rattle.edges.proofs.Lent.{edges_none}
+use Rattle.reader.proofs.Parts.{truth_is}
+use Rattle.session.proofs.ByKind.{some_shot, by_model, by_shot, quiet_kind, by_other}
 use Rattle.session.proofs.answer_kind.Goals as goal
-
-pub answer_model-requires : goal.answer_model-requires
-answer_model-requires c = (omega (arith, c.requires.0), some_model c.args.kind c.args.n c.args.state c.args.probability_bits.now (column 0 0 c.args.counts.now) (column 0 1 c.args.counts.now) (column 0 2 c.args.counts.now) (column 0 3 c.args.counts.now) (column 0 4 c.args.counts.now) c.args.entries.now (take 4 c.args.shot.now) (drop 4 c.args.shot.now) c.args.edge_u.now c.args.edge_v.now c.args.edge_weight.now c.args.edge_obs.now c.if-kind-eq4.true c.requires.1)
-
-pub returns-then-kind-eq4 : goal.returns-then-kind-eq4
-returns-then-kind-eq4 c =
-    by_model c.args.kind c.args.n c.args.state c.args.probability_bits.now (column 0 0 c.args.counts.now) (column 0 1 c.args.counts.now) (column 0 2 c.args.counts.now) (column 0 3 c.args.counts.now) (column 0 4 c.args.counts.now) c.args.entries.now (take 4 c.args.shot.now) (drop 4 c.args.shot.now) c.args.edge_u.now c.args.edge_v.now c.args.edge_weight.now c.args.edge_obs.now c.if-kind-eq4.true _ _ c.args.out.now _ c.answer_model.ensures
-
-pub slice_bounds-answer_shot-end : goal.slice_bounds-answer_shot-end
-slice_bounds-answer_shot-end c =
-    (places_of c.args.probability_bits.now c.args.counts.now c.args.entries.now c.args.shot.now c.requires.1.reads.sizes.room).shot
-
-pub slice_bounds-answer_shot-count-then-kind-eq6 : goal.slice_bounds-answer_shot-count-then-kind-eq6
-slice_bounds-answer_shot-count-then-kind-eq6 c =
-    (places_of c.args.probability_bits.now c.args.counts.now c.args.entries.now c.args.shot.now c.requires.1.reads.sizes.room).shot
-
-pub slice_bounds-answer_shot-start-then-kind-eq6 : goal.slice_bounds-answer_shot-start-then-kind-eq6
-slice_bounds-answer_shot-start-then-kind-eq6 c =
-    (places_of c.args.probability_bits.now c.args.counts.now c.args.entries.now c.args.shot.now c.requires.1.reads.sizes.room).shot
 
 pub answer_shot-requires : goal.answer_shot-requires
 answer_shot-requires c =
-    (c.requires.0, rw (truth_is c.args.shot.now) (some_shot c.args.kind c.args.n c.args.state c.args.probability_bits.now (column 0 0 c.args.counts.now) (column 0 1 c.args.counts.now) (column 0 2 c.args.counts.now) (column 0 3 c.args.counts.now) (column 0 4 c.args.counts.now) c.args.entries.now (take 4 c.args.shot.now) (drop 4 c.args.shot.now) c.args.edge_u.now c.args.edge_v.now c.args.edge_weight.now c.args.edge_obs.now c.if-kind-eq6.true c.requires.1))
+    let six = ap kind_byte c.in-Truth.is in
+    (c.requires.0, rw (truth_is c.args.read.now.shot.now) (some_shot (kind_byte c.args.kind) c.args.n c.args.state _ _ six c.requires.1))
 
-pub returns-then-kind-eq6 : goal.returns-then-kind-eq6
-returns-then-kind-eq6 c =
-    by_shot c.args.kind c.args.n c.args.state c.args.probability_bits.now (column 0 0 c.args.counts.now) (column 0 1 c.args.counts.now) (column 0 2 c.args.counts.now) (column 0 3 c.args.counts.now) (column 0 4 c.args.counts.now) c.args.entries.now (take 4 c.args.shot.now) (drop 4 c.args.shot.now) c.args.edge_u.now c.args.edge_v.now c.args.edge_weight.now c.args.edge_obs.now c.if-kind-eq4.false c.if-kind-eq6.true _ c.args.out.now _ (rw (truth_is c.args.shot.now) at c.answer_shot.ensures)
+pub returns-in-End-clause-answers : goal.returns-in-End-clause-answers
+returns-in-End-clause-answers c = by_model (kind_byte c.args.kind) c.args.n c.args.state _ _ (ap kind_byte c.in-End.is) _ _ c.args.out.now _ c.answer_model.ensures.answers
 
-pub returns : goal.returns
-returns c =
-    by_other c.args.kind c.args.n c.args.state c.args.probability_bits.now (column 0 0 c.args.counts.now) (column 0 1 c.args.counts.now) (column 0 2 c.args.counts.now) (column 0 3 c.args.counts.now) (column 0 4 c.args.counts.now) c.args.entries.now (take 4 c.args.shot.now) (drop 4 c.args.shot.now) c.args.edge_u.now c.args.edge_v.now c.args.edge_weight.now c.args.edge_obs.now c.if-kind-eq4.false c.if-kind-eq6.false c.args.out.now
+pub returns-in-Truth-clause-answers : goal.returns-in-Truth-clause-answers
+returns-in-Truth-clause-answers c =
+    by_shot (kind_byte c.args.kind) c.args.n c.args.state (columns_in c.args.read.now) c.args.edges.now (ap kind_byte c.in-Truth.is) _ c.args.out.now _
+    (rw (truth_is c.args.read.now.shot.now) at c.answer_shot.ensures)
+
+pub returns-in-Header : goal.returns-in-Header
+returns-in-Header c =
+    let quiet = quiet_kind c.args.kind c.in-Header.is in
+    record { answers = by_other (kind_byte c.args.kind) c.args.n c.args.state _ _ quiet.0 quiet.1 c.args.out.now; same = edges_none c.args.edges.now }

@@ -1,19 +1,22 @@
 -- `session::answer_model`: the graph, or the refusal.
 use mathlib.Core.Path.{refl}
-use mathlib.Core.List.{[]}
-use Rattle.counts.specs.Rows.{column}
-use Rattle.edges.specs.Tables.{slices}
 use Rattle.session.proofs.Models.{whole_rows, model_few, model_on, model_refused}
 use Rattle.session.proofs.answer_model.Goals as goal
 
 pub words_of-words-requires : goal.words_of-words-requires
 words_of-words-requires c =
-    model_few c.args.n c.args.state c.args.probability_bits.now (column 0 0 c.args.counts.now) (column 0 1 c.args.counts.now) (column 0 2 c.args.counts.now) (column 0 3 c.args.counts.now) (column 0 4 c.args.counts.now) c.args.entries.now (slices c.args.edge_u.now c.args.edge_v.now c.args.edge_weight.now c.args.edge_obs.now []) c.model_graph-compiled.result (slices c.model_graph-compiled.new.edge_u c.model_graph-compiled.new.edge_v c.model_graph-compiled.new.edge_weight c.model_graph-compiled.new.edge_obs []) (whole_rows c.args.n c.args.state c.args.probability_bits.now c.args.counts.now c.args.entries.now (slices c.args.edge_u.now c.args.edge_v.now c.args.edge_weight.now c.args.edge_obs.now []) c.model_graph-compiled.result (slices c.model_graph-compiled.new.edge_u c.model_graph-compiled.new.edge_v c.model_graph-compiled.new.edge_weight c.model_graph-compiled.new.edge_obs []) c.requires.1 c.model_graph-compiled.ensures) c.requires.1 _ c.in-Ok.is c.model_graph-compiled.auto.edge_u
+    let t = c.args.read.now in
+    let read = whole_rows c.args.n c.args.state t.probability_bits.now t.counts.now t.entries.now t.shot.now _ _ _ c.requires.1 c.model_graph-compiled.ensures.graph in
+    model_few c.args.n c.args.state _ _ _ _ read c.requires.1 _ c.in-Ok.is c.model_graph-compiled.ensures.same.edge_u_long
 
-pub returns-in-Err : goal.returns-in-Err
-returns-in-Err c =
-    model_refused c.args.n c.args.state c.args.probability_bits.now (column 0 0 c.args.counts.now) (column 0 1 c.args.counts.now) (column 0 2 c.args.counts.now) (column 0 3 c.args.counts.now) (column 0 4 c.args.counts.now) c.args.entries.now (slices c.args.edge_u.now c.args.edge_v.now c.args.edge_weight.now c.args.edge_obs.now []) c.model_graph-compiled.result (slices c.model_graph-compiled.new.edge_u c.model_graph-compiled.new.edge_v c.model_graph-compiled.new.edge_weight c.model_graph-compiled.new.edge_obs []) (whole_rows c.args.n c.args.state c.args.probability_bits.now c.args.counts.now c.args.entries.now (slices c.args.edge_u.now c.args.edge_v.now c.args.edge_weight.now c.args.edge_obs.now []) c.model_graph-compiled.result (slices c.model_graph-compiled.new.edge_u c.model_graph-compiled.new.edge_v c.model_graph-compiled.new.edge_weight c.model_graph-compiled.new.edge_obs []) c.requires.1 c.model_graph-compiled.ensures) _ c.args.out.now _ _ refl c.in-Err.is c.refuse.ensures
+pub returns-in-Err-clause-answers : goal.returns-in-Err-clause-answers
+returns-in-Err-clause-answers c =
+    let t = c.args.read.now in
+    let read = whole_rows c.args.n c.args.state t.probability_bits.now t.counts.now t.entries.now t.shot.now _ _ _ c.requires.1 c.model_graph-compiled.ensures.graph in
+    model_refused c.args.n c.args.state _ _ _ _ read _ c.args.out.now _ _ refl c.in-Err.is c.refuse.ensures
 
-pub returns-in-Ok : goal.returns-in-Ok
-returns-in-Ok c =
-    model_on c.args.n c.args.state c.args.probability_bits.now (column 0 0 c.args.counts.now) (column 0 1 c.args.counts.now) (column 0 2 c.args.counts.now) (column 0 3 c.args.counts.now) (column 0 4 c.args.counts.now) c.args.entries.now (slices c.args.edge_u.now c.args.edge_v.now c.args.edge_weight.now c.args.edge_obs.now []) c.model_graph-compiled.result (slices c.model_graph-compiled.new.edge_u c.model_graph-compiled.new.edge_v c.model_graph-compiled.new.edge_weight c.model_graph-compiled.new.edge_obs []) (whole_rows c.args.n c.args.state c.args.probability_bits.now c.args.counts.now c.args.entries.now (slices c.args.edge_u.now c.args.edge_v.now c.args.edge_weight.now c.args.edge_obs.now []) c.model_graph-compiled.result (slices c.model_graph-compiled.new.edge_u c.model_graph-compiled.new.edge_v c.model_graph-compiled.new.edge_weight c.model_graph-compiled.new.edge_obs []) c.requires.1 c.model_graph-compiled.ensures) _ _ c.args.out.now refl c.in-Ok.is c.model_graph-compiled.auto.edge_u c.words_of-words.ensures
+pub returns-in-Ok-clause-answers : goal.returns-in-Ok-clause-answers
+returns-in-Ok-clause-answers c =
+    let t = c.args.read.now in
+    let read = whole_rows c.args.n c.args.state t.probability_bits.now t.counts.now t.entries.now t.shot.now _ _ _ c.requires.1 c.model_graph-compiled.ensures.graph in
+    model_on c.args.n c.args.state _ _ _ _ read _ _ c.args.out.now refl c.in-Ok.is c.model_graph-compiled.ensures.same.edge_u_long c.words_of-words.ensures

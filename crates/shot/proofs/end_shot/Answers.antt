@@ -21,10 +21,5 @@ clean-requires c =
       used = rw (c.finish-r.ensures.same_tree.2.rest 1 refl, c.finish-r.ensures.same_tree.1.rest 1 refl, c.finish-r.ensures.same_tree.1.rest 2 refl, c.finish-r.ensures.same_tree.1.rest 3 refl, c.finish-r.ensures.same_tree.0.rest 1 refl) (used c.finish-r.ensures.finished c.requires.down c.finish-r.ensures.same c.requires.used (keep_length c.finish-r.ensures.same_tree.1 4));
     }
 
-pub returns : goal.returns
-returns c =
-    record {
-      finished = ended c.finish-r.ensures.finished c.requires.down c.finish-r.ensures.same c.clean.ensures.clean;
-      clean = c.clean.ensures.clean;
-      same_stacks = c.finish-r.ensures.same_tree.2;
-    }
+pub returns-clause-finished : goal.returns-clause-finished
+returns-clause-finished c = ended c.finish-r.ensures.finished c.requires.down c.finish-r.ensures.same c.clean.ensures.clean

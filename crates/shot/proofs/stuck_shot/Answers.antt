@@ -9,11 +9,11 @@ clean-requires c =
       used = c.requires.grew_to.grew.used;
     }
 
-pub returns : goal.returns
-returns c =
-    record {
-      answers = stuck_answer c.requires.tables c.requires.grew_to.grew c.requires.fact;
-      lists = stuck_list c.requires.tables c.requires.grew_to.grew c.requires.fact;
-      rows = stuck_row_lem c.requires.tables c.requires.grew_to.grew c.requires.fact;
-      rests = c.clean.ensures.clean;
-    }
+pub returns-clause-answers : goal.returns-clause-answers
+returns-clause-answers c = stuck_answer c.requires.tables c.requires.grew_to.grew c.requires.fact
+
+pub returns-clause-lists : goal.returns-clause-lists
+returns-clause-lists c = stuck_list c.requires.tables c.requires.grew_to.grew c.requires.fact
+
+pub returns-clause-rows : goal.returns-clause-rows
+returns-clause-rows c = stuck_row_lem c.requires.tables c.requires.grew_to.grew c.requires.fact

@@ -1,25 +1,23 @@
 -- `shot_reply::decode_told`: the three answers of the decoder.
-use lib.ListN.{length}
+use Rattle.std.proofs.lemmas.Result.{err_from_is_err_and}
+use Rattle.lent_graph.specs.Graph.{lent}
 use Rattle.shot_reply.specs.Outcome.{handed_for}
-use Rattle.shot_reply.proofs.Outcomes.{told_refused, told_stuck, told_list, list_long, told_room}
+use Rattle.shot_reply.proofs.Outcomes.{told_refused, told_stuck, told_list, list_long}
 use Rattle.shot_reply.proofs.decode_told.Goals as goal
+
+pub returns-in_err-found : goal.returns-in_err-found
+returns-in_err-found c =
+    let e = err_from_is_err_and c.from_residual.result c.from_residual.ensures.1 in
+    rw (e.1, e.2) (told_refused (handed_for (lent c.args.g.now) c.args.shot.now c.args.row.now c.args.list.now) c.args.truth.now c.args.out.now _ _ _ c.in_err-found.ensures)
 
 pub slice_bounds-tell-end : goal.slice_bounds-tell-end
 slice_bounds-tell-end c =
-    list_long (handed_for c.args.detectors c.args.observables c.args.edges c.args.edge_u.now c.args.edge_v.now c.args.edge_weight.now c.args.edge_obs.now c.args.shot.now c.args.row.now c.args.list.now) c.args.truth.now c.args.out.now _ _ _ _ (rw c.in-Decoded.is at c.decode-answer.ensures)
-
-pub tell-requires : goal.tell-requires
-tell-requires c =
-    told_room c.args.row.now c.decode-answer.new.row c.args.truth.now c.args.list.now c.decode-answer.new.list c.in-Decoded.length (length c.args.out.now) c.decode-answer.auto.row c.decode-answer.auto.list c.requires.0 c.requires.1
-
-pub returns-in-Refused : goal.returns-in-Refused
-returns-in-Refused c =
-    told_refused (handed_for c.args.detectors c.args.observables c.args.edges c.args.edge_u.now c.args.edge_v.now c.args.edge_weight.now c.args.edge_obs.now c.args.shot.now c.args.row.now c.args.list.now) c.args.truth.now c.args.out.now _ _ _ (rw c.in-Refused.is at c.decode-answer.ensures)
+    list_long (handed_for (lent c.args.g.now) c.args.shot.now c.args.row.now c.args.list.now) c.args.truth.now c.args.out.now _ _ _ _ (rw c.in-Decoded.is at c.in_ok-found.ensures)
 
 pub returns-in-Stuck : goal.returns-in-Stuck
 returns-in-Stuck c =
-    told_stuck (handed_for c.args.detectors c.args.observables c.args.edges c.args.edge_u.now c.args.edge_v.now c.args.edge_weight.now c.args.edge_obs.now c.args.shot.now c.args.row.now c.args.list.now) c.args.truth.now c.args.out.now _ _ _ _ (rw c.in-Stuck.is at c.decode-answer.ensures)
+    told_stuck (handed_for (lent c.args.g.now) c.args.shot.now c.args.row.now c.args.list.now) c.args.truth.now c.args.out.now _ _ _ _ (rw c.in-Stuck.is at c.in_ok-found.ensures)
 
 pub returns-in-Decoded : goal.returns-in-Decoded
 returns-in-Decoded c =
-    told_list (handed_for c.args.detectors c.args.observables c.args.edges c.args.edge_u.now c.args.edge_v.now c.args.edge_weight.now c.args.edge_obs.now c.args.shot.now c.args.row.now c.args.list.now) c.args.truth.now c.args.out.now _ _ _ _ (rw c.in-Decoded.is at c.decode-answer.ensures) _ _ c.tell.ensures
+    told_list (handed_for (lent c.args.g.now) c.args.shot.now c.args.row.now c.args.list.now) c.args.truth.now c.args.out.now _ _ _ _ (rw c.in-Decoded.is at c.in_ok-found.ensures) _ _ c.tell.ensures

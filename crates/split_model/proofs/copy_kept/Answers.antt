@@ -38,8 +38,8 @@ pub copy_entries-listed-requires : goal.copy_entries-listed-requires
 copy_entries-listed-requires c =
     record { holds = c.requires.holds; small = c.requires.small; room = (lists_long _ _ _ c.requires.lists).2; started = c.requires.started }
 
-pub returns : goal.returns
-returns c =
+pub returns-clause-copied : goal.returns-clause-copied
+returns-clause-copied c =
     let hold = c.requires.holds in
     let first = c.copy_column-kept.ensures nan in
     record {

@@ -2,13 +2,13 @@
 use Prim.Native.Nat.{◌-◌}
 use mathlib.Core.List.{[]}
 use lib.ListN.{length}
-use Rattle.edges.specs.Tables.{slices}
-use Rattle.reader.specs.Columns.{columns_of}
+use Rattle.edges.specs.Lent.{slices_of, SameEdges}
+use Rattle.reader.specs.Lent.{columns_in, SameTables}
 use Rattle.stream.proofs.Places.{Going, Moved}
 use Rattle.stream.proofs.feed.Given as goal
 
 abbrev pub invariant-loop-p : goal.invariant-loop-p
-invariant-loop-p l = Going l.initial.p (columns_of l.initial.probability_bits l.initial.counts l.initial.entries l.initial.shot) (slices l.initial.edge_u l.initial.edge_v l.initial.edge_weight l.initial.edge_obs []) l.block l.initial.line l.initial.out l.p (columns_of l.probability_bits l.counts l.entries l.shot) (slices l.edge_u l.edge_v l.edge_weight l.edge_obs []) l.line l.out × Moved l.initial.p l.p
+invariant-loop-p l = Going l.initial.p (columns_in l.initial.read) (slices_of l.initial.edges []) l.block l.initial.line l.initial.out l.p (columns_in l.read) (slices_of l.edges []) l.line l.out × Moved l.initial.p l.p × (SameTables l.initial.read l.read × SameEdges l.initial.edges l.edges)
 
 abbrev pub decreases-loop-p : goal.decreases-loop-p
 decreases-loop-p l = length l.block - l.p.taken

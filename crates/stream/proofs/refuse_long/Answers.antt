@@ -1,5 +1,5 @@
 -- `stream::refuse_long`: the refusal, behind what is there.
-use Prim.Native.Nat.{ℕ, ◌+◌, ◌-◌}
+use Prim.Native.Nat.{ℕ, ◌+◌}
 use mathlib.Core.Path.{ap}
 use native.Mathlib.Omega.{arith}
 use Rattle.codes.specs.declared.Refusal.TheVariants.{Frame}

@@ -6,10 +6,17 @@ use Rattle.suggested.proofs.Appending.{more_detectors, detectors_before}
 use Rattle.suggested.proofs.append.Goals as goal
 
 pub link-requires : goal.link-requires
-link-requires c = record {
-  detectors = more_detectors c.args.at c.args.s.at c.args.s.detectors c.args.s.observables c.args.entries.now c.args.starts.now c.args.detector_counts.now c.args.observable_counts.now c.requires.started c.requires.counted (length c.args.last_of.now) c.requires.detectors c.requires.few (omega (arith, c.requires.component.inside)) c.requires.component.detectors;
-  chains = chain_same (detectors_at c.args.starts.now c.args.detector_counts.now c.args.entries.now)
-      (detectors_at (set c.args.starts.now c.args.at c.args.s.at) (set c.args.detector_counts.now c.args.at c.args.s.detectors) c.args.entries.now)
-      c.args.at c.args.last_of.now c.args.before.now (detectors_before c.args.at c.args.s.at c.args.s.detectors c.args.s.observables c.args.entries.now c.args.starts.now c.args.detector_counts.now c.args.observable_counts.now) c.requires.chains;
-  long = c.requires.long;
-}
+link-requires c =
+    let ms = c.args.ms.now in
+    let es = c.args.entries.now in
+    let at = c.args.at in
+    let s = c.args.s in
+    let starts = ms.starts.now in
+    let counts = ms.detector_counts.now in
+    let others = ms.observable_counts.now in
+    record {
+      detectors = more_detectors at s.at s.detectors s.observables es starts counts others c.requires.started c.requires.counted (length ms.last_of.now) c.requires.detectors c.requires.few (omega (arith, c.requires.component.inside)) c.requires.component.detectors;
+      chains = chain_same (detectors_at starts counts es) (detectors_at (set starts at s.at) (set counts at s.detectors) es) at ms.last_of.now ms.before.now
+          (detectors_before at s.at s.detectors s.observables es starts counts others) c.requires.chains;
+      long = c.requires.long;
+    }

@@ -22,12 +22,12 @@ pub bounds-stacks-top : goal.bounds-stacks-top
 bounds-stacks-top c =
     omega (arith, below_stack c.requires.tabled c.requires.start_lt_d.0 c.requires.start_lt_d.1 (from_head (head c.args.flags.now c.args.stacks.now c.args.start) c.loop-top.invariant.0) c.loop-top-test.true, column_length stack_column 3 c.loop-top.stacks)
 
-pub bounds-adj_offsets-at : goal.bounds-adj_offsets-at
-bounds-adj_offsets-at c =
+pub bounds-adj-at : goal.bounds-adj-at
+bounds-adj-at c =
     omega (arith, x_in c.requires.tabled c.requires.start_lt_d.0 c.requires.start_lt_d.1 (from_head (head c.args.flags.now c.args.stacks.now c.args.start) c.loop-top.invariant.0) c.loop-top-test.true, read_front c.loop-top.stacks (c.loop-top.top - 1), c.requires.tabled.adjacent.offs)
 
-pub bounds-adj_offsets-at-in-loop-top : goal.bounds-adj_offsets-at-in-loop-top
-bounds-adj_offsets-at-in-loop-top c =
+pub bounds-adj-at-in-loop-top : goal.bounds-adj-at-in-loop-top
+bounds-adj-at-in-loop-top c =
     omega (arith, x_in c.requires.tabled c.requires.start_lt_d.0 c.requires.start_lt_d.1 (from_head (head c.args.flags.now c.args.stacks.now c.args.start) c.loop-top.invariant.0) c.loop-top-test.true, read_front c.loop-top.stacks (c.loop-top.top - 1), c.requires.tabled.adjacent.offs)
 
 pub meet_all-new-requires : goal.meet_all-new-requires
