@@ -9,6 +9,7 @@ ghost use Rattle.adjacency.specs.Lent.{SizedIn, CountedIn, SummedIn, AdjacentIn,
 use lent_graph::Graph;
 
 // An edge at a detector, and its other end.
+// kept: C shares the row; the other end of a boundary edge is a number there, that of the detectors
 #[repr(C)]
 #[derive(Clone, Copy)]
 pub struct Neighbor {
@@ -57,7 +58,7 @@ fn sums(g: &Graph, adj_offsets: &mut [u32])
 }
 
 // Puts the edge e, whose other end is y, before the edges of x.
-// kept: two slices lent for writing come one by one; a struct of the two would need a clause that each is the one lent
+// kept: two slices lent for writing come one by one; a struct of the two would save a parameter and need a clause that each is the one lent
 fn put(adj_offsets: &mut [u32], adj: &mut [Neighbor], x: usize, e: u32, y: u32)
     requires { (x < length adj_offsets.old) × (0 < get_or adj_offsets.old x 0) × (get_or adj_offsets.old x 0 ≤ length adj.old) }
     ensures { Put adj_offsets.old (near adj.old) (away adj.old) adj_offsets.new (near adj.new) (away adj.new) x e y }
@@ -69,7 +70,7 @@ fn put(adj_offsets: &mut [u32], adj: &mut [Neighbor], x: usize, e: u32, y: u32)
 }
 
 // Puts every edge at its ends, the last first, so that each detector's come out ascending.
-// kept: two slices lent for writing come one by one; a struct of the two would need a clause that each is the one lent
+// kept: two slices lent for writing come one by one; a struct of the two would save a parameter and need a clause that each is the one lent
 fn fill(g: &Graph, adj_offsets: &mut [u32], adj: &mut [Neighbor])
     requires sized { SizedIn g.now adj_offsets.old }
     requires summed { SummedIn g.now adj_offsets.old }
@@ -92,7 +93,7 @@ fn fill(g: &Graph, adj_offsets: &mut [u32], adj: &mut [Neighbor])
 }
 
 // Works out the adjacency.
-// kept: two slices lent for writing come one by one; a struct of the two would need a clause that each is the one lent
+// kept: two slices lent for writing come one by one; a struct of the two would save a parameter and need a clause that each is the one lent
 pub fn adjacency(g: &Graph, adj_offsets: &mut [u32], adj: &mut [Neighbor])
     requires sized { SizedIn g.now adj_offsets.old }
     requires edge_u_in_bounds { 2 * length g.now.edge_u.now ≤ length adj.old }
@@ -105,7 +106,7 @@ pub fn adjacency(g: &Graph, adj_offsets: &mut [u32], adj: &mut [Neighbor])
 }
 
 // The same where slices may be longer than the counts need: of the ends and the offsets the first entries are lent.
-// kept: two slices lent for writing come one by one; a struct of the two would need a clause that each is the one lent
+// kept: two slices lent for writing come one by one; a struct of the two would save a parameter and need a clause that each is the one lent
 pub fn tabulate(g: &Graph, adj_offsets: &mut [u32], adj: &mut [Neighbor])
     requires { TabledIn g.now adj_offsets.old adj.old }
     ensures { AdjacentPartsIn g.now adj_offsets.new adj.new }

@@ -103,7 +103,8 @@ fn decode_rows(
     Ok(())
 }
 
-// The tables put to rest, whatever they held, and the shots decoded. Of slices that may be longer than the counts need the first entries are lent. The tables come one by one: a part is cut from a slice, not from a struct's field.
+// The tables put to rest, whatever they held, and the shots decoded. Of slices that may be longer than the counts need the first entries are lent.
+// kept: the tables come one by one: it was tried with the struct, but the borrow checker has no rule for a struct made of parts of slices that stand in a lent struct
 #[tactic(auto, using(shot::proofs::Longer::small_of))]
 pub fn reset_and_decode_rows(
     g: &Graph,

@@ -18,7 +18,7 @@ pub fn detector_at(d: usize, x: u32, y: u32) -> u32
 }
 
 // Lists those of the n detectors seen whose cluster is active. Each that is seen is left pointing at its root.
-// kept: each table by itself, so that what it leaves alone needs no clause
+// kept: each table by itself; the struct of all six would need clauses for links, growth and sat, and that flags is only read
 pub fn front(d: usize, tree: &mut [Node], flags: &[Flags], stacks: &mut [Stack], n: usize) -> usize
     requires fronting { Fronting d (seen stacks.old) n (parents tree.old) (hots flags.now) (front stacks.old) }
     ensures { Fronted d (seen stacks.old) n (parents tree.old) (hots flags.now) (parents tree.new) (front stacks.new) result
@@ -36,7 +36,7 @@ pub fn front(d: usize, tree: &mut [Node], flags: &[Flags], stacks: &mut [Stack],
 }
 
 // Lists the open edges of the live detector x from `from` on, beside each the count of its live ends, frees the cluster of x if there is one, and returns the place past them. An edge whose other end is live too is listed at the lower of the two. Each open edge is written before it is known whether it is listed, since that cannot be foretold.
-// kept: each table by itself, so that what it leaves alone needs no clause
+// kept: each table by itself; the struct of all six would need clauses for stacks and growth, and that tree and sat are only read
 pub fn count_at(
     g: &Graph,
     adj: &Incidence,
@@ -83,7 +83,7 @@ pub fn count_at(
 }
 
 // Step 1: the counted edges, beside each its count, in the order of the m live detectors; their clusters that have one are free. Returns how many there are.
-// kept: each table by itself, so that what it leaves alone needs no clause
+// kept: each table by itself; the struct of all six would need clauses for growth, and that tree, stacks and sat are only read
 pub fn count(
     g: &Graph,
     adj: &Incidence,

@@ -10,7 +10,7 @@ ghost use Rattle.cover.specs.Search.{previous, highest, Outcome, Answered, Least
 ghost use Rattle.cover.specs.Lent.{detectors_of, observables_of, symptom_of, kept_of, HasDetectors, HasLists, DetectorsBy, fresh_of, RoomBy, MergedBy, NumberedBy, WordedBy, HasWords, equal_in, fresh_in, RoomIn, CompactBy, CompactedBy, GivenBy, SameWords, SameCandidates};
 
 // No mechanism.
-// kept: the chains are in lent tables of u32, so none is a number in them, above that of every mechanism
+// kept: the chains are in lent tables of u32, whose layout C shares, so none is a number in them, above that of every mechanism
 const NOWHERE: u32 = 4294967295;
 
 // The lists of mechanisms in tables: where each begins in the entries, and the lengths of its two lists.
@@ -42,6 +42,7 @@ pub struct Candidates<'a> {
 }
 
 // The tables that they are gathered in.
+// kept: C lends a slice for each column
 #[derive(Drop)]
 pub struct CandidateTables<'a> {
     pub numbers: &'a mut [u32],
@@ -60,7 +61,7 @@ fn fits_in(m: u16, c: u16) -> bool
 }
 
 // Whether a candidate is tried: it fits, and it has no earlier equal.
-// kept: the earlier equals are in a lent table of u32, so none is a number in it, 0
+// kept: the earlier equals are in a lent table of u32, whose layout C shares, so none is a number in it, 0
 fn tries(before: u32, m: u16, c: u16) -> bool
     ensures { result ≡ (eqb before 0 && fits m c) }
 {
@@ -259,6 +260,7 @@ fn fill_words(lists: &Lists, count: usize, c: &mut CandidateTables)
 // ---- repeated candidates
 
 // Whether candidates i and j have equal masks and words.
+// kept: they stand in three columns, so there is no value of theirs that could derive it
 #[tactic(auto, unfolding(crate::specs::Search::equal_at))]
 fn equal_at(c: &CandidateTables, i: usize, j: usize) -> bool
     requires { (i < j) × HasWords c.now j }

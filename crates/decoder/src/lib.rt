@@ -18,7 +18,8 @@ use lent_graph::Graph;
 use scratch::Scratch;
 use shot::Shot;
 
-// The tables put to rest, whatever they held, and the shot decoded. Of slices that may be longer than the counts need the first entries are lent. The tables come one by one: a part is cut from a slice, not from a struct's field.
+// The tables put to rest, whatever they held, and the shot decoded. Of slices that may be longer than the counts need the first entries are lent.
+// kept: the tables come one by one: it was tried with the struct, but the borrow checker has no rule for a struct made of parts of slices that stand in a lent struct
 #[tactic(auto, using(shot::proofs::Longer::small_of))]
 fn reset_and_decode(
     g: &Graph,

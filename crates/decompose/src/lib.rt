@@ -186,7 +186,7 @@ fn start(model: &Model, out: &mut Output, x: &mut ChainTables) -> Counts
 }
 
 // The model is decomposed into the output tables; a refusal leaves them as they are by then.
-// kept: the scratch comes slice by slice: two are cut to a place for each detector, and no cut of slices in a struct that is lent was proved
+// kept: the scratch comes slice by slice: two are cut to a place for each detector; it was tried with the struct, but the borrow checker has no rule for a struct made of parts of slices that stand in a lent struct
 pub fn decompose_checked(
     model: &Model,
     room: Size,

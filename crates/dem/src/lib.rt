@@ -21,6 +21,7 @@ pub struct Place {
 }
 
 // A model in its tables: an entry for each mechanism in the first four, for each component in the next two, and all lists in one.
+// kept: C lends a slice for each column, here and in Output
 #[derive(Clone, Copy)]
 pub struct Model<'a> {
     pub detectors: usize,

@@ -12,6 +12,7 @@ ghost use Rattle.edges.specs.Chains.{chain_end, last_ends};
 ghost use Rattle.edges.specs.Lent.{slices_of, ChainedIn, RoomIn, SameEdges, SameScratch, Zeroed};
 
 // The tables of the edges, lent for writing: a row of words for each in the last.
+// kept: C lends a slice for each column
 #[derive(Drop)]
 pub struct EdgeTables<'a> {
     pub edge_u: &'a mut [u32],
@@ -29,9 +30,11 @@ pub struct Scratch<'a> {
 }
 
 // The end of a chain.
-// kept: the chains are in lent tables of u32, so their end is a number in them, above that of every edge
+// kept: the chains are in lent tables of u32, whose layout C shares, so their end is a number in them, above that of every edge
 pub const NONE: u32 = 4294967295;
 
+// Whether an edge has the ends u and v.
+// kept: four numbers; a derive would need a pair made of each two
 pub fn same_ends(a: u32, b: u32, u: u32, v: u32) -> bool
     ensures { result ≡ (eqb a u && eqb b v) }
 {

@@ -111,7 +111,7 @@ fn judged(right: bool, n: State) -> Result<State, Refusal>
     }
 }
 
-// 02, 03 after a 02, 04 in a model.
+// Whether a line of this kind may come at this stage: a 03 only after a 02.
 #[tactic(auto, unfolding(crate::specs::Input::in_order))]
 fn in_order(stage: Stage, mechanisms: usize, kind: Kind) -> bool
     ensures { result ≡ in_order stage mechanisms (kind_byte kind) }

@@ -9,7 +9,7 @@ ghost use Rattle.cells.specs.Tables.{at_fresh, touched, cnt, fresh, SameLinks};
 use cells::Link;
 
 // The lesser of two steps.
-// kept: where b is not a number `min` answers s, and the definition that the contract names b
+// kept: where b is not a number `min` answers s; the steps' definition, which the contract names, has b
 pub fn lesser(b: f64, s: f64) -> f64
     ensures { result ≡ lesser_of b s }
 {
@@ -39,6 +39,7 @@ pub fn step_at(w: f64, g: f64, n: u32) -> f64
 }
 
 // Step 2: the least step of the m edges; infinity where there is none. The edge that gives it reaches its weight as it grows, so it is not kept.
+// kept: a minimum by `lesser`
 pub fn least(links: &[Link], m: usize, edge_weight: &[f64], growth: &[f64]) -> f64
     requires growing { Growing (touched links.now) (cnt links.now) m (length edge_weight.now) }
     requires growth_len { length growth.now ≡ length edge_weight.now }

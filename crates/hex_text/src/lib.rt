@@ -206,6 +206,7 @@ pub fn read_u64s(line: &[u8], from: usize, n: usize, out: &mut [u64])
 }
 
 // Numbers as eight bytes each.
+// kept: one call of the generic function, as is `write_u16s`, for those who call by width
 pub fn write_u64s(list: &[u64], out: &mut [u8], at: usize)
     requires { at + 16 * length list.now ≤ length out.old }
     ensures { out.new ≡ sets out.old at (text_of (bytes_each 8 list.now)) }

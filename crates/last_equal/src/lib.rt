@@ -43,6 +43,7 @@ pub fn same_at(lists: &Lists, k: usize, s: Span) -> bool
 }
 
 // Mechanism k is linked in, where it has a detector.
+// kept: the chains are in lent tables of u32, whose layout C shares, so none is a number there, 0, and mechanism k is k + 1
 pub fn link(lists: &Lists, k: usize, last_of: &mut [u32], before: &mut [u32])
     requires { LinkableBy lists.now k last_of.old before.old }
     ensures { Chained (detectors_of lists.now) (k + 1) last_of.new before.new }

@@ -13,11 +13,12 @@ ghost use Rattle.lent_graph.specs.Graph.{lent, edge_graph};
 
 use codes::{Checked, Refusal};
 
-// The second end of a boundary edge.
+// The second end of a boundary edge; of a cluster, that it has no exit.
 // kept: it stands in lent tables of u32, whose layout C shares, so none is a number there, above that of every detector
 pub const BOUNDARY: u32 = 4294967295;
 
 // A graph as a host lends it: three counts and four tables, each as long as the counts need or longer.
+// kept: C lends a slice for each column
 #[derive(Clone, Copy)]
 pub struct Graph<'a> {
     pub detectors: usize,

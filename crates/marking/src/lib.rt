@@ -13,9 +13,10 @@ ghost use Rattle.marking.specs.Answer.{marking_of};
 use codes::Refusal;
 use lent_graph::Graph;
 
+// kept: the scope names the cases Pass and Differs
 #[derive(Clone, Copy)]
 pub enum Marking {
-    // the row written
+    // each edge is known and stands once, and they flip the lit detectors
     Pass,
     // the lowest wrong detector
     Differs { detector: u32 },

@@ -44,7 +44,7 @@ pub fn room(out: &Output) -> Size
     }
 }
 
-// And so are the scratch slices: a mechanism may bring 16 more.
+// The scratch slices are long enough: a mechanism may bring 16 more.
 #[tactic(auto, unfolding(decompose::specs::Call::scratch_long))]
 pub fn scratch_long(detectors: usize, mechanisms: usize, s: Lengths) -> bool
     requires { mechanisms ≤ max_mechanisms }

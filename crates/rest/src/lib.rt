@@ -46,7 +46,7 @@ pub fn clean_edges(adj: &[Neighbor], start: usize, end: usize, growth: &mut [f64
 }
 
 // The n detectors seen and their edges are at rest. A detector's rows are stored whole.
-// kept: each table by itself, so that what it leaves alone needs no clause
+// kept: each table by itself; the struct of all six would need clauses for links, and that stacks is only read
 pub fn clean(
     g: &Graph,
     adj: &Incidence,
@@ -92,6 +92,7 @@ pub fn rest_flags(t: &mut [Flags])
 }
 
 // The tables are at rest.
+// kept: each table by itself; the struct of all six would need clauses for stacks and links, which it has nothing to do with
 pub fn reset(
     detectors: usize,
     edges: usize,

@@ -70,6 +70,7 @@ pub fn end_shot(
 }
 
 // The rounds finished, and the length of the correction list or the detector that Stuck names.
+// kept: Stuck has its rounds too, which a Refusal has not
 #[derive(Clone, Copy)]
 pub enum Shot {
     Decoded { rounds: u32, length: usize },

@@ -120,7 +120,7 @@ pub fn feed(
     ensures same { SameTables read.old read.new × SameEdges edges.old edges.new }
 {
     let mut p = from;
-    // kept: each turn takes as much of the input as a line or a block is long
+    // kept: a turn takes a line, or what the block has of one, while the output has room for a reply: no count is known before
     while p.taken < block.len() && session::LONGEST_REPLY <= out.len() - p.filled {
         p = feed_line(block, p, line, read, edges, out)?;
     }

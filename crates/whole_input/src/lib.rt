@@ -41,7 +41,7 @@ fn answer_over(
 {
     let mut p = stream::start();
     let mut at = 0;
-    // kept: each turn takes as much of the input as a line or a block is long
+    // kept: a turn takes what `feed` took, as far as its output had room: no count is known before
     while p.taken < input.len() {
         let fed = stream::feed(input, p, line, read, edges, reply);
         match fed {
