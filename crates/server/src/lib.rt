@@ -9,9 +9,8 @@ ghost use Rattle.marker.specs.Answer.{Marks};
 ghost use Rattle.dem.specs.Positions.{tables};
 ghost use Rattle.decompose.specs.Call as decomposition;
 ghost use Rattle.edges.specs.Tables.{slices};
-ghost use Rattle.graph.specs.Outcome.{outcome, Compiles};
 ghost use Rattle.codes.specs.Limits.{max_mechanisms};
-ghost use Rattle.server.specs.Lent.{lent_by, lengths_by};
+ghost use Rattle.server.specs.Lent.{lent_by, lengths_by, CompilesBy, DecomposesBy};
 ghost use Rattle.server.specs.Lengths.{within, decode_lengths, decompose_with, decompose_lengths, compile_with, compile_lengths, mark_with, mark_lengths};
 ghost use Rattle.server.specs.Words.{InWords, told_of, words_of_model, words_of_graph, words_of_mark, words_of_shot, words_of_batch, words_of_rate};
 
@@ -111,7 +110,9 @@ pub extern "C" fn pavrenni_compile(
     first: &mut [u32],
     next: &mut [u32],
 ) -> GraphWords
-    ensures { InWords words_of_graph (λ a. Compiles detectors observables (outcome detectors observables mechanisms (tables probability.now detector_counts.now observable_counts.now component_counts.now component_detectors.now component_observables.now entries.now) (slices edge_u.old edge_v.old edge_weight.old edge_obs.old edge_p.old) first.old next.old) a (slices edge_u.old edge_v.old edge_weight.old edge_obs.old edge_p.old) (slices edge_u.new edge_v.new edge_weight.new edge_obs.new edge_p.new)) result }
+    ensures { InWords words_of_graph (λ a. CompilesBy detectors observables mechanisms
+        (tables probability.now detector_counts.now observable_counts.now component_counts.now component_detectors.now component_observables.now entries.now)
+        (slices edge_u.old edge_v.old edge_weight.old edge_obs.old edge_p.old) first.old next.old a (slices edge_u.new edge_v.new edge_weight.new edge_obs.new edge_p.new)) result }
 {
     let model = Model {
         detectors,
@@ -478,7 +479,11 @@ pub extern "C" fn pavrenni_decompose<'a>(
     words1: &'a mut [u64],
     earlier: &'a mut [u32],
 ) -> ModelWords
-    ensures { InWords words_of_model (λ a. decomposition.Decomposes (decomposition.outcome detectors observables mechanisms (tables probability.now detector_counts.now observable_counts.now component_counts.now component_detectors.now component_observables.now entries.now) (tables out_probability.old out_detector_counts.old out_observable_counts.old out_component_counts.old out_component_detectors.old out_component_observables.old out_entries.old) (decomposition.lengths_of starts.old before.old last_of.old first_of.old next_of.old numbers.old masks.old words0.old words1.old earlier.old)) a (tables out_probability.old out_detector_counts.old out_observable_counts.old out_component_counts.old out_component_detectors.old out_component_observables.old out_entries.old) (tables out_probability.new out_detector_counts.new out_observable_counts.new out_component_counts.new out_component_detectors.new out_component_observables.new out_entries.new)) result }
+    ensures { InWords words_of_model (λ a. DecomposesBy detectors observables mechanisms
+        (tables probability.now detector_counts.now observable_counts.now component_counts.now component_detectors.now component_observables.now entries.now)
+        (decomposition.lengths_of starts.old before.old last_of.old first_of.old next_of.old numbers.old masks.old words0.old words1.old earlier.old)
+        (tables out_probability.old out_detector_counts.old out_observable_counts.old out_component_counts.old out_component_detectors.old out_component_observables.old out_entries.old) a
+        (tables out_probability.new out_detector_counts.new out_observable_counts.new out_component_counts.new out_component_detectors.new out_component_observables.new out_entries.new)) result }
 {
     let model = Model {
         detectors,
