@@ -4,6 +4,7 @@
 ghost use Rattle.std.specs.Prelude.{◌≡◌, length};
 ghost use Rattle.lists.specs.Lists.{below};
 ghost use Rattle.scratch.specs.Scratch.{lengths_in};
+ghost use Rattle.scratch.specs.Lent.{SameScratch};
 ghost use Rattle.lent_graph.specs.Graph.{lent, edge_graph};
 ghost use Rattle.batch_rows.specs.Rows.{check_shots_of, rows_of};
 ghost use Rattle.batch.specs.Batch.{handed, checks, Decodes};
@@ -25,6 +26,7 @@ pub fn decode_accepted(
     requires { checks (handed (lent g.now) rows.now shots g.now.detectors out.old (length list.old) (lengths_in s.old)) ≡ Ok tt }
     ensures answers { result ≡ check_shots_of (edge_graph g.now) rows.now (below shots) }
     ensures rows { out.new ≡ rows_of (edge_graph g.now) rows.now (below shots) out.old }
+    ensures same { SameScratch s.old s.new }
 {
     let adj_offsets = &mut *s.adj_offsets;
     let neighbors = &mut *s.adj;
@@ -49,7 +51,8 @@ pub fn decode_batch(
     list: &mut [u32],
     s: &mut Scratch,
 ) -> Checked
-    ensures { Decodes (handed (lent g.now) rows.now shots width out.old (length list.old) (lengths_in s.old)) result out.new }
+    ensures decodes { Decodes (handed (lent g.now) rows.now shots width out.old (length list.old) (lengths_in s.old)) result out.new }
+    ensures same { SameScratch s.old s.new }
 {
     let have = s.lengths();
     let long = own_slices::own_long(

@@ -5,6 +5,7 @@ ghost use Rattle.std.specs.Prelude.{◌<◌, ◌≤◌, ◌≡◌, length};
 ghost use Rattle.steps.specs.Shot.{decode, row_left};
 ghost use Rattle.steps.specs.Call.{lit_of, list_left};
 ghost use Rattle.scratch.specs.Scratch.{lengths_in};
+ghost use Rattle.scratch.specs.Lent.{SameScratch};
 ghost use Rattle.lent_graph.specs.Graph.{lent, edge_graph};
 ghost use Rattle.rest.specs.Rows.{Spaces};
 ghost use Rattle.shot.specs.Shots.{Given, shot_of};
@@ -76,7 +77,8 @@ pub fn decode_shot(
     list: &mut [u32],
     s: &mut Scratch,
 ) -> Result<Shot, Refusal>
-    ensures { Decodes (handed (lent g.now) shot.now width row.old list.old (lengths_in s.old)) result list.new row.new }
+    ensures decodes { Decodes (handed (lent g.now) shot.now width row.old list.old (lengths_in s.old)) result list.new row.new }
+    ensures same { SameScratch s.old s.new }
 {
     let have = s.lengths();
     let long = own_slices::own_long(

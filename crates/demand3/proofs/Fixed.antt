@@ -1,7 +1,6 @@
 -- The rounds told are one number, whatever else the answers are.
 use Rattle.std.specs.Prelude.{Result}
 use Prim.Native.Nat.{ℕ}
-use mathlib.Core.Path.{◌≡◌, ap, sym, ◌∙◌}
 use mathlib.Core.List.{List}
 use mathlib.Core.Logic.{◌⊎◌, inl, inr}
 use Rattle.steps.specs.Found.{AllRounds}

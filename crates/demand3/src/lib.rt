@@ -3,6 +3,7 @@
 
 ghost use Rattle.std.specs.Prelude.{length};
 ghost use Rattle.scratch.specs.Scratch.{lengths_in};
+ghost use Rattle.scratch.specs.Lent.{SameScratch};
 ghost use Rattle.lent_graph.specs.Graph.{lent};
 ghost use Rattle.decoder.specs.Answer.{handed};
 ghost use Rattle.demand3.specs.Verified.{Fits, Follows, Verified};
@@ -66,7 +67,8 @@ pub fn decode_and_mark(
     list: &mut [u32],
     s: &mut Scratch,
 ) -> Verdict
-    ensures { Verified (handed (lent g.now) shot.now width row.old list.old (lengths_in s.old)) result list.new row.new }
+    ensures verified { Verified (handed (lent g.now) shot.now width row.old list.old (lengths_in s.old)) result list.new row.new }
+    ensures same { SameScratch s.old s.new }
 {
     let answer = decoder::decode_shot(g, shot, width, row, list, s);
     mark_answer(answer, list, g, shot, width)

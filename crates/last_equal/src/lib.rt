@@ -19,11 +19,19 @@ pub struct Span {
 }
 
 // Whether two lists are equal.
-#[tactic(auto, using(crate::proofs::Same::same_slices))]
+// kept: by places; `==` of slices calls a comparison by groups of entries, which takes longer for these few and is asked for each mechanism of a chain
 pub fn same_list(a: &[u32], b: &[u32]) -> bool
     ensures { result ≡ same_list a.now b.now }
 {
-    a == b
+    if a.len() != b.len() {
+        return false;
+    }
+    for i in 0..a.len() {
+        if a[i] != b[i] {
+            return false;
+        }
+    }
+    true
 }
 
 // Whether mechanism k has the lists of s.

@@ -3,10 +3,10 @@ use Rattle.std.specs.Prelude.{Option, None, Some, Result, Ok, Err}
 use Prim.Native.Nat.{ℕ, zero, suc, ◌+◌, ◌*◌, ◌/◌, ◌≤◌, ◌<◌}
 use native.Mathlib.Omega.{arith}
 use mathlib.Core.Path.{◌≡◌, refl, sym, ap, ◌∙◌}
-use mathlib.Core.List.{List, [], ◌∷◌}
+use mathlib.Core.List.{List, [], ◌∷◌, ◌++◌, append-nil}
 use mathlib.Core.Bool.{Bool, true, false, xor}
 use borrow.Author.Tests.{ne_eqb}
-use lib.ListN.{length, get_or, replicate, length-replicate}
+use lib.ListN.{length, get_or, take, drop, replicate, length-replicate, drop_of_length-le}
 use Rattle.lists.specs.Lists.{from, below, filter}
 use Rattle.lists.proofs.Truth.{case-of}
 use Rattle.bits.specs.Rows.{words, bit, is_clear, set_bits}
@@ -81,6 +81,12 @@ module _ (d n : ℕ) (u v shot marks wrong : List ℕ) (r : Ready d n u v shot m
   pub few_words : length wrong ≤ 64
   unfolding words
   few_words = let k = r.few in let h = r.wrong_long in omega arith
+
+  -- the shot over the whole row
+  pub whole_row : (now : List ℕ) → now ≡ take 0 wrong ++ (shot ++ drop (0 + length shot) wrong) → now ≡ shot
+  whole_row now q =
+      let long : length wrong ≤ 0 + length shot = omega (arith, r.shot_long, r.wrong_long) in
+      q ∙ ap (λ (rest : List ℕ). shot ++ rest) (drop_of_length-le wrong long) ∙ append-nil shot
 
   -- the marks cleared, and the shot copied
   pub unmet : (met now : List ℕ) → met ≡ replicate (length marks) 0 → now ≡ shot → Unmet n u v met now

@@ -82,7 +82,7 @@ pub fn judge(
     ensures { result ≡ marking_of (mark (ends_in g.now) (lit_of g.now.detectors shot.now) list.now) }
 {
     marks.fill(0);
-    wrong.copy_from_slice(shot);
+    tables::copy_to(shot, wrong, 0);
     if !meet(g, list, marks, wrong) {
         return Err(Refusal::Edge);
     }

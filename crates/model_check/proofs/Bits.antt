@@ -5,7 +5,7 @@ use native.Mathlib.Numerals.{one-add}
 use native.Mathlib.Omega.{arith}
 use mathlib.Core.Path.{◌≡◌, refl, sym, ap, ap₂, ◌∙◌}
 use mathlib.Core.List.{List, ◌∷◌}
-use mathlib.Core.Bool.{Bool, true, false, not, ◌&&◌}
+use mathlib.Core.Bool.{Bool, true, false, cond, not, ◌&&◌}
 use lib.ListN.{length, get_or, take, drop}
 use lib.Seq.{get_or-drop}
 use lib.Dec.{ltb}
@@ -20,7 +20,7 @@ use Rattle.dem.specs.Model.{Symptom, ErrorMechanism, symptom_fits, symptoms_fit,
 use Rattle.dem.specs.Tables.{components_of, component_entries, first_of, first_entries, rest_of, model_of}
 use Rattle.dem.specs.Positions.{tables}
 use Rattle.codes.proofs.Checks.{then_accepted}
-use Rattle.model_check.specs.Bits.{number_of, Alike, Bytes}
+use Rattle.model_check.specs.Bits.{two, probability_of, Alike, Bytes}
 use Rattle.model_check.specs.BitLaws.{Laws}
 
 -- ---- bits
@@ -31,8 +31,33 @@ nan_fits nan h = refl
 nan_fits (inf s) h = clash h refl
 nan_fits (fin s m e) h = clash h refl
 
-nan_refused : (b : ℕ) → Ieee.nan_bits binary64 b ≡ true → probability_fits (number_of b) ≡ false
-nan_refused b t = nan_fits (Ieee.of_bits binary64 b) (sym (nan_bits_is binary64 b) ∙ t)
+-- a NaN is told by the number that the bits give
+pub by_number : (b : ℕ) → probability_of b ≡ cond (Ieee.is_nan (Ieee.of_bits binary64 b)) two (Ieee.of_bits binary64 b)
+unfolding probability_of
+by_number b = ap (λ (t : Bool). cond t two (Ieee.of_bits binary64 b)) (nan_bits_is binary64 b)
+
+two_fits : probability_fits two ≡ false
+unfolding probability_fits Ieee.le Ieee.lt Ieee.of_bits
+two_fits = refl
+
+fits_bits : (b : ℕ) → probability_fits (probability_of b) ≡ probability_fits (Ieee.of_bits binary64 b)
+unfolding probability_of
+fits_bits b =
+    case-of (Ieee.nan_bits binary64 b)
+    (λ (t : Ieee.nan_bits binary64 b ≡ true). rw t (two_fits ∙ sym (nan_fits (Ieee.of_bits binary64 b) (sym (nan_bits_is binary64 b) ∙ t))))
+    (λ (f : Ieee.nan_bits binary64 b ≡ false). rw f)
+
+same_bits : (b : ℕ) → probability_fits (probability_of b) ≡ true → probability_of b ≡ Ieee.of_bits binary64 b
+unfolding probability_of
+same_bits b = go (Ieee.nan_bits binary64 b)
+  where
+    go : (t : Bool) → probability_fits (cond t two (Ieee.of_bits binary64 b)) ≡ true → cond t two (Ieee.of_bits binary64 b) ≡ Ieee.of_bits binary64 b
+    go true h = clash h two_fits
+    go false h = refl
+
+nan_refused : (b : ℕ) → Ieee.nan_bits binary64 b ≡ true → probability_fits (probability_of b) ≡ false
+unfolding probability_of
+nan_refused b t = rw t two_fits
 
 -- ---- one mechanism
 
@@ -140,8 +165,8 @@ module _ (D O : ℕ) where
 
 pub laws : Laws
 laws = record {
-  fits_bits = λ b. refl;
-  same_bits = λ b. refl;
+  fits_bits = fits_bits;
+  same_bits = same_bits;
   nan_refused = nan_refused;
   check_alike = λ n D O i. check_alike D O n i;
   same_accepted = λ n D O i. same_accepted D O n i;

@@ -27,7 +27,7 @@ use Rattle.dem.proofs.Positions.{hold_of, components_sum, totals_are}
 use Rattle.frames.specs.declared.State.{State}
 use Rattle.frames.specs.Input.{Given, Input, mechanism_of, model_read, tables_read}
 use Rattle.frames.proofs.FrameKinds.{held_of}
-use Rattle.model_check.specs.Bits.{number_of, Alike, Bytes}
+use Rattle.model_check.specs.Bits.{probability_of, Alike, Bytes}
 use Rattle.model_check.proofs.Bits.{laws}
 use Rattle.reader.specs.Columns.{Columns, columns, byte_of, columns_at, Holds}
 use Rattle.reader.proofs.Stored.{read_long}
@@ -93,19 +93,19 @@ module _ (s : Input) (c : Columns) (e : c ≡ columns_at s c) where
       written_at (map byte_of counts) c.component_counts (ap (λ k. k.component_counts) e) k (omega (arith, length-map counts byte_of))
       ∙ get_or-map byte_of counts k 0 ∙ ap byte_of (sym (get_or-append counts (drop (length counts) c.component_counts) 0 k inside))
 
-  module _ (ps rest : List Float) (q : ps ≡ map number_of (take (length s.mechanisms) c.bits) ++ rest) where
-    long_column : length (map number_of (take (length s.mechanisms) c.bits)) ≡ length s.mechanisms
-    long_column = length-map (take (length s.mechanisms) c.bits) number_of ∙ length-take (length s.mechanisms) c.bits ∙ omega (arith, bits_long)
+  module _ (ps rest : List Float) (q : ps ≡ map probability_of (take (length s.mechanisms) c.bits) ++ rest) where
+    long_column : length (map probability_of (take (length s.mechanisms) c.bits)) ≡ length s.mechanisms
+    long_column = length-map (take (length s.mechanisms) c.bits) probability_of ∙ length-take (length s.mechanisms) c.bits ∙ omega (arith, bits_long)
 
-    column_at : (k : ℕ) → k < length s.mechanisms → get_or ps k nan ≡ number_of (get_or (map (λ g. g.bits) s.mechanisms) k 0)
+    column_at : (k : ℕ) → k < length s.mechanisms → get_or ps k nan ≡ probability_of (get_or (map (λ g. g.bits) s.mechanisms) k 0)
     unfolding columns_at
     column_at k h =
         let n = length s.mechanisms in
-        let front = map number_of (take n c.bits) in
+        let front = map probability_of (take n c.bits) in
         let inside : k < length front = omega (arith, long_column) in
-        ap (λ (l : List Float). get_or l k nan) q ∙ get_or-append front rest nan k inside ∙ get_d_any front k nan (number_of 0) inside
-        ∙ get_or-map number_of (take n c.bits) k 0
-        ∙ ap number_of (get_or-take n c.bits k 0 h
+        ap (λ (l : List Float). get_or l k nan) q ∙ get_or-append front rest nan k inside ∙ get_d_any front k nan (probability_of 0) inside
+        ∙ get_or-map probability_of (take n c.bits) k 0
+        ∙ ap probability_of (get_or-take n c.bits k 0 h
         ∙ written_at (map (λ g. g.bits) s.mechanisms) c.bits (ap (λ k. k.bits) e) k (omega (arith, length-map s.mechanisms (λ g. g.bits))))
 
     exact_at : (k : ℕ) → k < length s.mechanisms → get_or (written (tables_read s.mechanisms).probability []) k nan ≡ Ieee.of_bits binary64 (get_or (map (λ g. g.bits) s.mechanisms) k 0)
@@ -115,8 +115,8 @@ module _ (s : Input) (c : Columns) (e : c ≡ columns_at s c) where
 
     alike_of : Alike (length s.mechanisms) (written (tables_read s.mechanisms).probability []) ps
     alike_of = record {
-      fits = λ k h. ap probability_fits (column_at k h ∙ sym (exact_at k h));
-      same = λ k h z. column_at k h ∙ sym (exact_at k h);
+      fits = λ k h. ap probability_fits (column_at k h) ∙ laws.fits_bits (get_or (map (λ g. g.bits) s.mechanisms) k 0) ∙ ap probability_fits (sym (exact_at k h));
+      same = λ k h z. column_at k h ∙ laws.same_bits (get_or (map (λ g. g.bits) s.mechanisms) k 0) (sym (ap probability_fits (column_at k h)) ∙ z) ∙ sym (exact_at k h);
     }
 
     -- the check of the tables is the check of the model
@@ -149,7 +149,7 @@ module _ (s : Input) (c : Columns) (e : c ≡ columns_at s c) where
         let a : total (take (n - 0) t.component_counts) ≤ total (take (n - 0) x.component_counts) = rw z fewer in
         let b : total (take (n - 0) t.component_counts) - 0 ≤ total (take (n - 0) x.component_counts) - 0 = omega (arith, a) in
         hold_of n t (record {
-          probability = omega (arith, ap length q, length-append (map number_of (take n c.bits)) rest, long_column);
+          probability = omega (arith, ap length q, length-append (map probability_of (take n c.bits)) rest, long_column);
           detectors = omega (arith, begins_long r.detector_counts c.detector_counts (ap (λ k. k.detector_counts) e), long.detector_counts);
           observables = omega (arith, begins_long r.observable_counts c.observable_counts (ap (λ k. k.observable_counts) e), long.observable_counts);
           components = omega (arith, begins_long (map byte_of r.component_counts) c.component_counts (ap (λ k. k.component_counts) e), length-map r.component_counts byte_of, long.component_counts);

@@ -5,13 +5,13 @@ use Rattle.std.specs.Float.{binary64}
 use Rattle.dem.specs.Model.{probability_fits, check_model}
 use Rattle.dem.specs.Tables.{model_of}
 use Rattle.dem.specs.Positions.{tables}
-use Rattle.model_check.specs.Bits.{number_of, Alike, Bytes}
+use Rattle.model_check.specs.Bits.{probability_of, Alike, Bytes}
 
 pub record Laws : Type 0 where
   -- "outside [0,1) or NaN": NaN bits are refused as a NaN is
-  pub fits_bits : (b : ℕ) → probability_fits (number_of b) ≡ probability_fits (Ieee.of_bits binary64 b)
-  pub same_bits : (b : ℕ) → number_of b ≡ Ieee.of_bits binary64 b
-  pub nan_refused : (b : ℕ) → Ieee.nan_bits binary64 b ≡ true → probability_fits (number_of b) ≡ false
+  pub fits_bits : (b : ℕ) → probability_fits (probability_of b) ≡ probability_fits (Ieee.of_bits binary64 b)
+  pub same_bits : (b : ℕ) → probability_fits (probability_of b) ≡ true → probability_of b ≡ Ieee.of_bits binary64 b
+  pub nan_refused : (b : ℕ) → Ieee.nan_bits binary64 b ≡ true → probability_fits (probability_of b) ≡ false
   -- the check of a model answers alike
   pub check_alike : (n D O i : ℕ) (ps qs : List Float) (ds os cs bs cds cos es : List ℕ) → Alike n ps qs → Bytes n cs bs
       → check_model D O i (model_of n (tables qs ds os bs cds cos es)) ≡ check_model D O i (model_of n (tables ps ds os cs cds cos es))

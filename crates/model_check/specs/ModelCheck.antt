@@ -9,7 +9,7 @@ use Rattle.dem.specs.Positions.{tables}
 use Rattle.dem.specs.Check.{check_all}
 use Rattle.frames.specs.declared.State.{State}
 use Rattle.frames.specs.Input.{Input, model_read}
-use Rattle.model_check.specs.Bits.{number_of}
+use Rattle.model_check.specs.Bits.{probability_of}
 use Rattle.reader.specs.Columns.{Columns, columns, Holds}
 
 -- the tables of a model, with the column of probabilities ps
@@ -19,7 +19,7 @@ model_tables ps c =
 
 -- m probabilities from their bits, then what was there
 abbrev pub from_bits : ℕ → List ℕ → List Float → List Float
-from_bits m bs was = map number_of (take m bs) ++ drop m was
+from_bits m bs was = map probability_of (take m bs) ++ drop m was
 
 -- 2 where the bits or the column are too short for the mechanisms, else the check of the tables, whatever they hold
 unfoldable pub check_read : State → Columns → List Float → Checked

@@ -3,6 +3,7 @@
 
 ghost use Rattle.std.specs.Prelude.{Err, ◌≡◌, ◌≤◌, length, replicate, false, pos};
 ghost use Rattle.std.specs.Float.{fin};
+ghost use Rattle.model_check.specs.Bits.{probability_of};
 ghost use Rattle.model_check.specs.ModelCheck.{from_bits};
 ghost use Rattle.model_check.specs.Lent.{ReadChecked};
 
@@ -23,13 +24,22 @@ pub struct ReadModel<'a> {
     pub entries: &'a [u32],
 }
 
-// A column of n from its bits. A NaN's bits give a NaN, which the check refuses.
+// The number that bits stand for, and 2.0 for a NaN's.
+#[tactic(auto, using(crate::proofs::Bits::by_number))]
+pub fn probability_of(bits: u64) -> f64
+    ensures { result ≡ probability_of bits }
+{
+    let x = f64_from_bits_with_nan(bits);
+    if x.is_nan() { 2.0 } else { x }
+}
+
+// A column of n from its bits.
 pub fn probabilities(bits: &[u64], n: usize, out: &mut [f64])
     requires { (n ≤ length bits.now) × (n ≤ length out.old) }
     ensures { out.new ≡ from_bits n bits.now out.old }
 {
     for i in 0..n {
-        out[i] = f64_from_bits_with_nan(bits[i]);
+        out[i] = probability_of(bits[i]);
     }
 }
 

@@ -5,6 +5,7 @@ ghost use Rattle.std.specs.Prelude.{◌≡◌, length};
 ghost use Rattle.lent_graph.specs.Graph.{lent};
 ghost use Rattle.rate.specs.Checks.{check_both, check_rate};
 ghost use Rattle.scratch.specs.Scratch.{lengths_in};
+ghost use Rattle.scratch.specs.Lent.{SameScratch};
 ghost use Rattle.batch.specs.Batch.{handed};
 ghost use Rattle.rate.specs.Rate.{compared, Rates};
 
@@ -79,7 +80,8 @@ pub fn logical_error_rate(
     list: &mut [u32],
     s: &mut Scratch,
 ) -> ErrorRate
-    ensures { Rates (compared (handed (lent g.now) rows.now shots width out.old (length list.old) (lengths_in s.old)) truth.now true_shots true_width) result out.new }
+    ensures rates { Rates (compared (handed (lent g.now) rows.now shots width out.old (length list.old) (lengths_in s.old)) truth.now true_shots true_width) result out.new }
+    ensures same { SameScratch s.old s.new }
 {
     let have = s.lengths();
     let long = own_slices::own_long(

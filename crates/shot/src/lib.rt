@@ -20,7 +20,7 @@ ghost use Rattle.shot.specs.Lent.{Decodable, LeftIn, PlacesIn, GrewToIn, decode_
 ghost use Rattle.shot.specs.Blank.{is_blank};
 
 use adjacency::Incidence;
-use cells::Tables;
+use cells::{StackColumn, Tables};
 use lent_graph::Graph;
 
 // Peels all clusters, puts the observables of the list into out_row, and puts to rest what the shot has changed. Returns the length of the list.
@@ -124,12 +124,15 @@ pub fn grow_and_answer(
     ensures rests { AtRest g.now t.new }
     ensures same { SameSlices t.old t.new }
 {
+    // taken out of their places once, or each round would read them there again
+    let whole = *g;
+    let near = *adj;
     let mut n = l;
     let mut a = l;
     let mut rounds = 0;
     // kept: it ends when no cluster is active, after at most as many rounds as edges; a `for` to that bound would have to be left by the same test
     while 0 < a {
-        let s = growth_round::round(g, adj, t, n, a);
+        let s = growth_round::round(&whole, &near, t, n, a);
         n = s.seen;
         a = s.active;
         if let Some(detector) = s.stuck {
@@ -170,7 +173,7 @@ pub fn decode_clean(
 {
     let flags = &mut *t.flags;
     let stacks = &mut *t.stacks;
-    let l = bits::list_set_bits(shot, g.detectors, stacks);
+    let l = bits::list_set_bits(shot, g.detectors, stacks, StackColumn::Defect);
     if l == 0 {
         return Shot::Decoded {
             rounds: 0,

@@ -3,16 +3,22 @@ use Prim.Native.Nat.{ℕ, ◌+◌, ◌<◌}
 use native.Mathlib.Omega.{arith}
 use native.Mathlib.Numerals.{add-one}
 use mathlib.Core.Path.{◌≡◌, refl, sym, ap, ◌∙◌}
-use mathlib.Core.List.{List, [], ◌∷◌}
+use mathlib.Core.List.{List, [], ◌∷◌, map}
 use mathlib.Core.Bool.{Bool, true, false, cond, ◌&&◌, ◌||◌, or-false, and-true}
 use lib.Dec.{eqb}
-use lib.ListN.{length, get_or, set, take, length-set}
+use lib.ListN.{length, get_or, set, take, length-set, length-map, length-take}
 use lib.Seq.{get_or-set_same, get_or-set_other, take-suc, ext_get_or}
 use borrow.Author.Tests.{eqb-true, eqb-false}
+use Rattle.std.proofs.lemmas.List.{get_or_default}
 use Rattle.lists.specs.Lists.{below, filter, member}
 use Rattle.lists.proofs.Truth.{case-of, or_intro}
 use Rattle.lists.proofs.Members.{member_append, member_filter, below_member}
+use Rattle.columns.proofs.Columns.{first_at}
 use Rattle.tables.specs.Marks.{Places, Painted}
+
+-- the entry that is read: it is in the list, so any default serves
+pub entry_read : {A : Type 0} (f : A → ℕ) (s : List A) (n i : ℕ) (z : A) → i < length (take n s) → f (get_or (take n s) i z) ≡ get_or (map f s) i 0
+entry_read f s n i z h = first_at s n i h f z ∙ get_or_default (map f s) i (f z) 0 (omega (arith, length-map s f, length-take n s))
 
 -- the places before i are written
 pub record Painting (list : List ℕ) (n : ℕ) (b : Bool) (t₀ : List Bool) (i : ℕ) (t : List Bool) : Type 0 where

@@ -2,7 +2,6 @@
 use Rattle.std.specs.Prelude.{Ok, Err}
 use mathlib.Core.Path.{sym, ◌∙◌}
 use native.Mathlib.Omega.{arith}
-use lib.ListN.{length}
 use Rattle.std.proofs.lemmas.Result.{err_from_is_err_and}
 use Rattle.scratch.specs.Scratch.{lengths_in}
 use Rattle.lent_graph.specs.Graph.{lent}
@@ -12,15 +11,15 @@ use Rattle.decoder.proofs.Laws.{own, given}
 use Rattle.decoder.proofs.Answered.{own_is, checked, accepts, refused, blanked, decodes}
 use Rattle.decoder.proofs.decode_shot.Goals as goal
 
-pub returns-in_err-check_call : goal.returns-in_err-check_call
-returns-in_err-check_call c =
+pub returns-in_err-check_call-clause-decodes : goal.returns-in_err-check_call-clause-decodes
+returns-in_err-check_call-clause-decodes c =
     let h = handed (lent c.args.g.now) c.args.shot.now c.args.width c.args.row.now c.args.list.now (lengths_in c.args.s.now) in
     let no = checked h c.own_long-long.result (Err c.in_err-check_call.field-0.0) (own_is h c.lengths-have.ensures c.own_long-long.ensures) c.in_err-check_call.ensures in
     let e = err_from_is_err_and c.from_residual.result c.from_residual.ensures.1 in
     rw (e.1, e.2) (refused h c.in_err-check_call.field-0.0 no)
 
-pub returns-then-is_blank : goal.returns-then-is_blank
-returns-then-is_blank c =
+pub returns-then-is_blank-clause-decodes : goal.returns-then-is_blank-clause-decodes
+returns-then-is_blank-clause-decodes c =
     let h = handed (lent c.args.g.now) c.args.shot.now c.args.width c.args.row.now c.args.list.now (lengths_in c.args.s.now) in
     let yes = checked h c.own_long-long.result (Ok tt) (own_is h c.lengths-have.ensures c.own_long-long.ensures) c.in_ok-check_call.ensures in
     blanked h yes (sym c.is_blank.ensures ∙ c.if-is_blank.true)
@@ -45,8 +44,8 @@ reset_and_decode-requires c =
       detectors_in_bounds = (o.2.stacks, o.2.links);
     }
 
-pub returns : goal.returns
-returns c =
+pub returns-clause-decodes : goal.returns-clause-decodes
+returns-clause-decodes c =
     let h = handed (lent c.args.g.now) c.args.shot.now c.args.width c.args.row.now c.args.list.now (lengths_in c.args.s.now) in
     let yes = checked h c.own_long-long.result (Ok tt) (own_is h c.lengths-have.ensures c.own_long-long.ensures) c.in_ok-check_call.ensures in
     decodes h yes c.reset_and_decode.ensures.answers c.reset_and_decode.ensures.lists c.reset_and_decode.ensures.rows
