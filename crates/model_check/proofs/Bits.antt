@@ -59,6 +59,10 @@ nan_refused : (b : ℕ) → Ieee.nan_bits binary64 b ≡ true → probability_fi
 unfolding probability_of
 nan_refused b t = rw t two_fits
 
+number_bits : (b : ℕ) → Ieee.nan_bits binary64 b ≡ false → probability_of b ≡ Ieee.of_bits binary64 b
+unfolding probability_of
+number_bits b f = rw f
+
 -- ---- one mechanism
 
 and_none : (a b : Bool) → (a && (false && b)) ≡ false
@@ -168,6 +172,7 @@ laws = record {
   fits_bits = fits_bits;
   same_bits = same_bits;
   nan_refused = nan_refused;
+  number_bits = number_bits;
   check_alike = λ n D O i. check_alike D O n i;
   same_accepted = λ n D O i. same_accepted D O n i;
 }
