@@ -40,21 +40,6 @@ two_fits : probability_fits two ≡ false
 unfolding probability_fits Ieee.le Ieee.lt Ieee.of_bits
 two_fits = refl
 
-fits_bits : (b : ℕ) → probability_fits (probability_of b) ≡ probability_fits (Ieee.of_bits binary64 b)
-unfolding probability_of
-fits_bits b =
-    case-of (Ieee.nan_bits binary64 b)
-    (λ (t : Ieee.nan_bits binary64 b ≡ true). rw t (two_fits ∙ sym (nan_fits (Ieee.of_bits binary64 b) (sym (nan_bits_is binary64 b) ∙ t))))
-    (λ (f : Ieee.nan_bits binary64 b ≡ false). rw f)
-
-same_bits : (b : ℕ) → probability_fits (probability_of b) ≡ true → probability_of b ≡ Ieee.of_bits binary64 b
-unfolding probability_of
-same_bits b = go (Ieee.nan_bits binary64 b)
-  where
-    go : (t : Bool) → probability_fits (cond t two (Ieee.of_bits binary64 b)) ≡ true → cond t two (Ieee.of_bits binary64 b) ≡ Ieee.of_bits binary64 b
-    go true h = clash h two_fits
-    go false h = refl
-
 nan_refused : (b : ℕ) → Ieee.nan_bits binary64 b ≡ true → probability_fits (probability_of b) ≡ false
 unfolding probability_of
 nan_refused b t = rw t two_fits
@@ -62,6 +47,18 @@ nan_refused b t = rw t two_fits
 number_bits : (b : ℕ) → Ieee.nan_bits binary64 b ≡ false → probability_of b ≡ Ieee.of_bits binary64 b
 unfolding probability_of
 number_bits b f = rw f
+
+fits_bits : (b : ℕ) → probability_fits (probability_of b) ≡ probability_fits (Ieee.of_bits binary64 b)
+fits_bits b =
+    case-of (Ieee.nan_bits binary64 b)
+    (λ (t : Ieee.nan_bits binary64 b ≡ true). nan_refused b t ∙ sym (nan_fits (Ieee.of_bits binary64 b) (sym (nan_bits_is binary64 b) ∙ t)))
+    (λ (f : Ieee.nan_bits binary64 b ≡ false). ap probability_fits (number_bits b f))
+
+same_bits : (b : ℕ) → probability_fits (probability_of b) ≡ true → probability_of b ≡ Ieee.of_bits binary64 b
+same_bits b h =
+    case-of (Ieee.nan_bits binary64 b)
+    (λ (t : Ieee.nan_bits binary64 b ≡ true). clash h (nan_refused b t))
+    (λ (f : Ieee.nan_bits binary64 b ≡ false). number_bits b f)
 
 -- ---- one mechanism
 

@@ -12,7 +12,7 @@ pub record Laws : Type 0 where
   pub fits_bits : (b : ℕ) → probability_fits (probability_of b) ≡ probability_fits (Ieee.of_bits binary64 b)
   pub same_bits : (b : ℕ) → probability_fits (probability_of b) ≡ true → probability_of b ≡ Ieee.of_bits binary64 b
   pub nan_refused : (b : ℕ) → Ieee.nan_bits binary64 b ≡ true → probability_fits (probability_of b) ≡ false
-  -- all others stand for their number, a probability or not
+  -- bits that are no NaN's give their number, whether it is a probability or not
   pub number_bits : (b : ℕ) → Ieee.nan_bits binary64 b ≡ false → probability_of b ≡ Ieee.of_bits binary64 b
   -- the check of a model answers alike
   pub check_alike : (n D O i : ℕ) (ps qs : List Float) (ds os cs bs cds cos es : List ℕ) → Alike n ps qs → Bytes n cs bs
